@@ -1,0 +1,2 @@
+-- What a loop that fills memory leaves.
+pub mod Filled

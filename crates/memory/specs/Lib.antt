@@ -1,0 +1,2 @@
+-- What lent memory holds.
+pub mod Lists

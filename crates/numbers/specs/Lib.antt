@@ -1,0 +1,4 @@
+-- What the numbers are.
+pub mod Binary16
+pub mod Fields
+pub mod Steps

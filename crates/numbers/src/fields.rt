@@ -1,0 +1,29 @@
+// The fields of packed bytes: little-endian numbers, and a byte as a signed number.
+ghost use mathlib.Core.Path.{_≡_};
+ghost use Prim.Native.Nat.{_+_, _*_};
+ghost use Rattle.numbers.specs.Fields.{signed};
+
+// The little-endian number of two bytes, the low one first.
+pub fn le_u16(b0: u8, b1: u8) -> u16
+    ensures { λ r. ⌜ r ≡ b0 + 256 * b1 ⌝ }
+{
+    b0 as u16 + 256 * b1 as u16
+}
+
+// The little-endian number of four bytes.
+pub fn le_u32(b0: u8, b1: u8, b2: u8, b3: u8) -> u32
+    ensures { λ r. ⌜ r ≡ (b0 + 256 * b1) + 65536 * (b2 + 256 * b3) ⌝ }
+{
+    le_u16(b0, b1) as u32 + 65536 * le_u16(b2, b3) as u32
+}
+
+// A byte as a signed number, in two's complement.
+pub fn signed_byte(b: u8) -> i8
+    ensures { λ r. ⌜ r ≡ signed b ⌝ }
+{
+    if b < 128 {
+        b as i8
+    } else {
+        -1 - ((255 - b) as i8)
+    }
+}

@@ -1,0 +1,51 @@
+// The numbers that say no, the sizes a call takes, and the answers that carry a value or such a number.
+
+// Packed bytes are not whole blocks.
+pub const NOT_WHOLE_BLOCKS: u32 = 1;
+// A float count or in_feat is not a multiple of the block's values.
+pub const NOT_A_MULTIPLE: u32 = 2;
+// Fewer weights than needed; in the `_cpu` layers, any other weight length.
+pub const WEIGHTS_SHORT: u32 = 3;
+// Fewer readings than needed; in the `_cpu` layers, any other length; too many for one activation block.
+pub const READINGS_SHORT: u32 = 4;
+// Output, scratch, slots or marks too short; in the `_cpu` layers, an output of any other length.
+pub const ROOM_SHORT: u32 = 5;
+// Over a size below; a layer record's in_feat or out_feat out of range.
+pub const TOO_LARGE: u32 = 6;
+// An activation block whose sums are not the sums of its 32s.
+pub const WRONG_SUMS: u32 = 7;
+// A row or chunk outside the layer.
+pub const OUTSIDE: u32 = 8;
+// That piece is already done.
+pub const ALREADY_DONE: u32 = 9;
+// A row is closed while a piece of it is open.
+pub const PIECE_OPEN: u32 = 10;
+// A record is malformed.
+pub const MALFORMED: u32 = 11;
+// Unknown record kind or weight format.
+pub const UNKNOWN: u32 = 12;
+// A window still has warm-up readings.
+pub const WARM_UP: u32 = 13;
+
+// n and in_feat at most.
+pub const MOST_IN: usize = 131_072;
+// out_feat at most.
+pub const MOST_OUT: usize = 65_536;
+// batch at most.
+pub const MOST_BATCH: usize = 1_024;
+// Floats at most, where a quantizer or `canonical_chunk` is given them.
+pub const MOST_FLOATS: usize = 131_072;
+// Bytes at most, where a block decoder is given them.
+pub const MOST_BYTES: usize = 16_777_216;
+
+// What a dot or a sum answers: its value, or a number that says no.
+pub enum Answer {
+    Value(f32),
+    Refused(u32),
+}
+
+// What a call that fills lent memory answers: that it is done, or a number that says no.
+pub enum Outcome {
+    Done,
+    Refused(u32),
+}
