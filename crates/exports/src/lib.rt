@@ -6,12 +6,12 @@ ghost use Rattle.numbers.specs.Binary16.{widened, narrowed};
 pub extern "C" fn jambharrow_f16_to_f32(half: u16) -> f32
     ensures { λ r. ⌜ r ≡ widened half ⌝ }
 {
-    numbers::binary16::f16_to_f32(half)
+    numbers::f16_to_f32(half)
 }
 
 #[no_mangle]
 pub extern "C" fn jambharrow_f32_to_f16(bits: u32) -> u16
     ensures { λ r. ⌜ r ≡ narrowed bits ⌝ }
 {
-    numbers::binary16::f32_to_f16(bits)
+    numbers::f32_to_f16(bits)
 }

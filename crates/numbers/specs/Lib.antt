@@ -2,3 +2,4 @@
 pub mod Binary16
 pub mod Fields
 pub mod Steps
+pub mod Readings
