@@ -1,8 +1,11 @@
--- What several proofs of `numbers` share, and what the numbers are as numbers.
+-- What the numbers are as numbers, and what several proofs share.
+pub mod Widening
+pub mod Narrowing
+pub mod Card
+pub mod Unique
 pub mod SameValue
 pub mod Patterns
 pub mod Shifted
 pub mod Cases
-pub mod Valued
 pub mod Signed
 pub mod Truncation

@@ -1,0 +1,42 @@
+-- Each call's contract is met by one answer alone. Assumes nothing.
+use Rattle.refusals.proofs.Once.{OneResult, same}
+use Rattle.numbers.proofs.binary16.f16_to_f32.Reads as f16-to-f32
+use Rattle.numbers.proofs.binary16.f32_to_f16.Reads as f32-to-f16
+use Rattle.numbers.proofs.bits.bits_of.Reads as bits-of
+use Rattle.numbers.proofs.bits.of_bits.Reads as of-bits
+use Rattle.numbers.proofs.fields.le_u16.Reads as le-u16
+use Rattle.numbers.proofs.fields.le_u32.Reads as le-u32
+use Rattle.numbers.proofs.fields.signed_byte.Reads as signed-byte
+use Rattle.numbers.proofs.steps.magnitude_of.Reads as magnitude-of
+use Rattle.numbers.proofs.steps.truncate.Reads as truncate
+use Rattle.numbers.proofs.steps.whole_to_f32.Reads as whole-to-f32
+
+pub f16-to-f32-once : OneResult f16-to-f32.Post
+f16-to-f32-once κs a x y s t h k = same h k
+
+pub f32-to-f16-once : OneResult f32-to-f16.Post
+f32-to-f16-once κs a x y s t h k = same h k
+
+pub bits-of-once : OneResult bits-of.Post
+bits-of-once κs a x y s t h k = same h k
+
+pub of-bits-once : OneResult of-bits.Post
+of-bits-once κs a x y s t h k = same h k
+
+pub le-u16-once : OneResult le-u16.Post
+le-u16-once κs a x y s t h k = same h k
+
+pub le-u32-once : OneResult le-u32.Post
+le-u32-once κs a x y s t h k = same h k
+
+pub signed-byte-once : OneResult signed-byte.Post
+signed-byte-once κs a x y s t h k = same h k
+
+pub magnitude-of-once : OneResult magnitude-of.Post
+magnitude-of-once κs a x y s t h k = same h k
+
+pub truncate-once : OneResult truncate.Post
+truncate-once κs a x y s t h k = same h k
+
+pub whole-to-f32-once : OneResult whole-to-f32.Post
+whole-to-f32-once κs a x y s t h k = same h k
