@@ -7,7 +7,7 @@ use native.Mathlib.Omega.{arith}
 use mathlib.Core.List.{List, [], _∷_, _++_, append-assoc, append-nil}
 use lib.ListN.{length, getD, take, drop, set, length-append, length-drop, length-set, drop-of-length-le, List·getD-append}
 use mathlib.Core.Logic.{inl, inr}
-use lib.Seq.{getD-at, length-take-le, drop-cons, set-at, take-at, drop-at, drop-drop}
+use lib.Seq.{getD-at, getD-take, getD-drop, length-take-le, drop-cons, set-at, take-at, drop-at, drop-drop}
 use Rattle.memory.specs.Lists.{table, filled, part}
 
 module _ {A : Type 0} where
@@ -101,3 +101,11 @@ module _ {A : Type 0} where
   part-turn f g xs out ys a k e m E M h w q x =
       let p = filled-part f g xs out ys a k e E w q x in
       (p ∙ ap (filled f xs) (sym M), ap length p ∙ length-filled f xs e h)
+
+  -- what stands in a part of k places from a on
+  pub part-at : (xs : List A) (a k i : ℕ) (d : A) → i < k → getD (part xs a k) i d ≡ getD xs (a + i) d
+  part-at xs a k i d h = getD-take k (drop a xs) i d h ∙ getD-drop a xs i d
+
+  -- what stands in a part of m places from a on, of a table
+  pub table-part : (f : ℕ → A) (xs : List A) (n a m k i : ℕ) (d : A) → xs ≡ table f n → k ≡ m → a + m ≤ n → i < m → getD (take k (drop a xs)) i d ≡ f (a + i)
+  table-part f xs n a m k i d e h r l = rw (e, h) (part-at (table f n) a m i d l ∙ getD-table f n (a + i) d (omega arith))

@@ -1,2 +1,3 @@
 -- What a loop that fills memory leaves.
 pub mod Filled
+pub mod Streams

@@ -1,5 +1,5 @@
 -- Signed numbers in the machine's bits. Assumes nothing.
-use mathlib.Core.Path.{_≡_, refl, ap}
+use mathlib.Core.Path.{_≡_, refl, sym, ap, _∙_}
 use mathlib.Core.Bool.{Bool, true, false, cond}
 use Prim.Native.Nat.{ℕ, zero, suc, _-_, _^_, _≤_, _<_}
 use native.Mathlib.Nat.{zero-add}
@@ -16,6 +16,13 @@ use Rattle.numbers.specs.Fields.{signed}
 -- a number that a signed width holds is read back from its bits
 pub read-is : (w : Width) (z : ℤ) → mag z < 2 ^ hbits w → toZ w (ofZ w z) ≡ z
 read-is w z p = toZ-ofZ w z (record { sfits = p })
+
+-- a signed byte as a store reads it
+abbrev pub byteRead : ℤ → ℤ
+byteRead z = toZ w8 (ofZ w8 z)
+
+pub byte-read : {z x y : ℤ} → mag z < 128 → z ≡ x → y ≡ x → byteRead z ≡ y
+byte-read h e f = read-is w8 _ h ∙ e ∙ sym f
 
 -- a byte's signed number is what the machine reads from its bits
 pub signed-is : (b : ℕ) → toZ w8 b ≡ signed b

@@ -1,0 +1,68 @@
+-- The layouts' whole numbers at the places that a turn fills, by the bytes that it reads. Assumes nothing.
+use mathlib.Core.Path.{_≡_, refl, ap, _∙_}
+use mathlib.Core.Logic.{_⊎_, inl, inr}
+use Prim.Native.Nat.{ℕ, zero, suc, _+_, _*_, _/_, _%_, _^_, _<_}
+use native.Mathlib.Omega.{arith}
+use mathlib.Core.List.{List}
+use lib.Arith.{digits-div}
+use lib.IntN.{pos, _-ℤ_}
+use lib.ListN.{getD}
+use Rattle.numbers.specs.Fields.{le32}
+use Rattle.layouts.specs.Of32.{nibble, quant32}
+use Rattle.layouts.specs.K.{quantQ4K, quantQ6K, sixBits}
+use Rattle.layouts.specs.declared.format.Format32.the-variants.{Q40, Q50}
+
+-- ---- Q4_0: byte k has the neighbours 2 k and 2 k + 1
+
+pub q40-low : (bs : List ℕ) (k : ℕ) → quant32 Q40 bs (2 * k) ≡ pos (getD bs (2 + k) 0 % 16) -ℤ pos 8
+unfolding quant32
+q40-low bs k =
+    let a : 2 * k / 2 ≡ k = omega arith in
+    let b : 2 * k % 2 ≡ 0 = omega arith in
+    rw (a, b)
+
+pub q40-high : (bs : List ℕ) (k : ℕ) → quant32 Q40 bs (2 * k + 1) ≡ pos (getD bs (2 + k) 0 / 16) -ℤ pos 8
+unfolding quant32
+q40-high bs k =
+    let a : (2 * k + 1) / 2 ≡ k = omega arith in
+    let b : (2 * k + 1) % 2 ≡ 1 = omega arith in
+    rw (a, b)
+
+-- ---- Q5_0: byte k has the places k and k + 16
+
+pub q50-low : (bs : List ℕ) (k : ℕ) → k < 16 → quant32 Q50 bs k ≡ pos (getD bs (6 + k) 0 % 16 + 16 * (le32 bs 2 / 2 ^ k % 2)) -ℤ pos 16
+unfolding quant32
+q50-low bs k h =
+    let a : k % 16 ≡ k = omega arith in
+    let b : k / 16 ≡ 0 = omega arith in
+    rw (a, b)
+
+pub q50-high : (bs : List ℕ) (k : ℕ) → k < 16 → quant32 Q50 bs (k + 16) ≡ pos (getD bs (6 + k) 0 / 16 + 16 * (le32 bs 2 / 2 ^ (k + 16) % 2)) -ℤ pos 16
+unfolding quant32
+q50-high bs k h =
+    let a : (k + 16) % 16 ≡ k = omega arith in
+    let b : (k + 16) / 16 ≡ 1 = omega arith in
+    rw (a, b)
+
+-- ---- Q4_K: place p = 32 j + l of sub-block j, whose byte is a
+
+pub q4k-at : (bs : List ℕ) (j l p a : ℕ) → l < 32 → p ≡ 32 * j + l → a ≡ 16 + (32 * (j / 2) + l) → nibble (getD bs a 0) (j % 2) ≡ quantQ4K bs p
+unfolding quantQ4K
+q4k-at bs j l p a h e f =
+    let r : 32 * (j % 2) + l < 64 = omega arith in
+    let s : 32 * j + l ≡ j / 2 * 64 + (32 * (j % 2) + l) = omega arith in
+    let u : (32 * j + l) / 64 ≡ j / 2 = ap (λ (n : ℕ). n / 64) s ∙ digits-div (j / 2) r in
+    let v : (32 * j + l) % 32 ≡ l = omega arith in
+    let w : (32 * j + l) / 32 ≡ j = omega arith in
+    rw (e, f, u, v, w)
+
+-- ---- Q6_K: place p = 128 h + 32 t + l of quarter t of half h, whose low byte is a and whose high byte is b
+
+pub q6k-at : (bs : List ℕ) (h t l p a b : ℕ) → t < 4 → l < 32 → p ≡ 128 * h + (32 * t + l) → a ≡ 64 * h + (32 * (t % 2) + l) → b ≡ 128 + (32 * h + l)
+    → quantQ6K bs p ≡ pos (nibble (getD bs a 0) (t / 2) + 16 * (getD bs b 0 / 2 ^ (2 * t) % 4)) -ℤ pos 32
+unfolding quantQ6K
+q6k-at bs h t l p a b s k e f g =
+    let u : (128 * h + (32 * t + l)) / 128 ≡ h = omega arith in
+    let v : (128 * h + (32 * t + l)) % 128 / 32 ≡ t = omega arith in
+    let w : (128 * h + (32 * t + l)) % 32 ≡ l = omega arith in
+    rw (e, f, g, u, v, w)

@@ -1,0 +1,30 @@
+-- A turn k of 16 that fills two of a block's 32 places: neighbours, or the same place of each half. Assumes nothing.
+use mathlib.Core.Path.{_≡_, refl}
+use mathlib.Core.Logic.{inl, inr}
+use Prim.Native.Nat.{ℕ, zero, suc, _+_, _*_, _/_, _%_, _<_}
+use native.Mathlib.Omega.{arith}
+use mathlib.Core.List.{List, [], _∷_}
+use Rattle.memory.proofs.Streams.{Put, Among}
+
+module _ {A : Type 0} where
+  -- two values to their places
+  abbrev pub two : (p : ℕ) (a : A) (q : ℕ) (b : A) → List (Put A)
+  two p a q b = record { place = p; what = a } ∷ record { place = q; what = b } ∷ []
+
+  -- places 2 k and 2 k + 1 are those of turn k
+  pub own-neighbours : (k : ℕ) (a b : A) (i : ℕ) → i < 32 → i / 2 ≡ k → Among i (two (2 * k) a (2 * k + 1) b)
+  own-neighbours k a b i h e = go (i % 2) refl
+    where
+      go : (t : ℕ) → t ≡ i % 2 → Among i (two (2 * k) a (2 * k + 1) b)
+      go zero q = inl (omega arith)
+      go (suc zero) q = inr (inl (omega arith))
+      go (suc (suc t)) q = absurd (omega arith)
+
+  -- places k and k + 16 are those of turn k
+  pub own-halves : (k : ℕ) (a b : A) (i : ℕ) → i < 32 → i % 16 ≡ k → Among i (two k a (k + 16) b)
+  own-halves k a b i h e = go (i / 16) refl
+    where
+      go : (t : ℕ) → t ≡ i / 16 → Among i (two k a (k + 16) b)
+      go zero q = inl (omega arith)
+      go (suc zero) q = inr (inl (omega arith))
+      go (suc (suc t)) q = absurd (omega arith)

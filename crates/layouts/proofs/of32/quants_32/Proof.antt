@@ -1,0 +1,50 @@
+-- `of32::quants_32` meets its contract: each layout its own. Assumes nothing.
+use mathlib.Core.Path.{_≡_, refl, sym, ap, _∙_}
+use Rattle.memory.specs.Lists.{table}
+use borrow.Author.Needs.{needs}
+use Rattle.layouts.specs.Formats.{bytes32}
+use Rattle.layouts.specs.Of32.{quant32}
+use Rattle.layouts.specs.declared.format.Format32.{Format32}
+use Rattle.layouts.proofs.of32.quants_32.Statement.{statement}
+use Rattle.layouts.proofs.of32.quants_32.Tie as tie
+
+enum-told : tie.Need-enum-told
+enum-told c = search needs
+
+quants-q4-0-requires : tie.Need-quants-q4-0-requires
+quants-q4-0-requires c κs = c .before .before .before .pre ∙ ap bytes32 (c .enum-told .given .1)
+
+enum-told-2 : tie.Need-enum-told-2
+enum-told-2 c = search needs
+
+quants-q5-0-requires : tie.Need-quants-q5-0-requires
+quants-q5-0-requires c κs = c .before .before .before .pre ∙ ap bytes32 (c .enum-told2 .given .1)
+
+enum-told-3 : tie.Need-enum-told-3
+enum-told-3 c = search needs
+
+quants-q8-0-requires : tie.Need-quants-q8-0-requires
+quants-q8-0-requires c κs = c .before .before .before .pre ∙ ap bytes32 (c .enum-told3 .given .1)
+
+returns : tie.Need-returns
+returns c = c .quants-q4-0 .ensures ∙ ap (λ (f : Format32). table (quant32 f (c .before .before .before .before .args .block .now)) 32) (sym (c .before .enum-told .given .1))
+
+returns-2 : tie.Need-returns-2
+returns-2 c = c .quants-q5-0 .ensures ∙ ap (λ (f : Format32). table (quant32 f (c .before .before .before .before .args .block .now)) 32) (sym (c .before .enum-told2 .given .1))
+
+returns-3 : tie.Need-returns-3
+returns-3 c = c .quants-q8-0 .ensures ∙ ap (λ (f : Format32). table (quant32 f (c .before .before .before .before .args .block .now)) 32) (sym (c .before .enum-told3 .given .1))
+
+pub quants-32-spec : {M : Type 1} → statement M
+quants-32-spec =
+    tie.close
+    (tie.spec
+    enum-told
+    quants-q4-0-requires
+    enum-told-2
+    quants-q5-0-requires
+    enum-told-3
+    quants-q8-0-requires
+    returns
+    returns-2
+    returns-3)

@@ -1,0 +1,29 @@
+-- The formats' block sizes. Definitions only.
+use Prim.Native.Nat.{ℕ}
+use Rattle.layouts.specs.declared.format.Format32.{Format32}
+use Rattle.layouts.specs.declared.format.Format32.the-variants.{Q40, Q50, Q80}
+use Rattle.layouts.specs.declared.format.FormatK.{FormatK}
+use Rattle.layouts.specs.declared.format.FormatK.the-variants.{Q4K, Q6K}
+use Rattle.layouts.specs.declared.format.Format.{Format}
+use Rattle.layouts.specs.declared.format.Format.the-variants.{Of32, OfK}
+
+-- Q4_0: 18 bytes; Q5_0: 22 bytes; Q8_0: 34 bytes
+abbrev pub bytes32 : Format32 → ℕ
+bytes32 Q40 = 18
+bytes32 Q50 = 22
+bytes32 Q80 = 34
+
+-- Q4_K: 144 bytes; Q6_K: 210 bytes
+abbrev pub bytesK : FormatK → ℕ
+bytesK Q4K = 144
+bytesK Q6K = 210
+
+-- how many bytes a block has
+abbrev pub blockBytes : Format → ℕ
+blockBytes (Of32 f) = bytes32 f
+blockBytes (OfK f) = bytesK f
+
+-- how many values a block has
+abbrev pub blockValues : Format → ℕ
+blockValues (Of32 f) = 32
+blockValues (OfK f) = 256

@@ -1,0 +1,6 @@
+-- What a packed block means.
+pub mod Formats
+pub mod Of32
+pub mod K
+pub mod Weights
+pub mod Says

@@ -1,0 +1,105 @@
+// The block decoders: every block's values, each block's in its own places in the middle of the output.
+use crate::format::Format;
+use crate::format::Format32;
+use crate::format::FormatK;
+use crate::format::block_bytes;
+use crate::format::block_values;
+use crate::k::decode_k;
+use crate::of32::decode_32;
+use refusals::Outcome;
+ghost use mathlib.Core.Path.{_≡_};
+ghost use Prim.Native.Nat.{_≤_, _<_};
+ghost use lib.ListN.{length};
+ghost use Rattle.refusals.specs.Said.{outcomeSays};
+ghost use Rattle.memory.specs.Lists.{table, filled};
+ghost use Rattle.layouts.specs.Formats.{blockBytes, blockValues};
+ghost use Rattle.layouts.specs.Weights.{valueIn, weightAt, valuesOf};
+ghost use Rattle.layouts.specs.Says.{dequantizeNo, dequantizeSays};
+
+// One block's values.
+fn decode_block(format: Format, block: &[u8], out: &mut [f32])
+    requires { ⌜ (length (now block) ≡ blockBytes format) × (length (now out) ≡ blockValues format) ⌝ }
+    ensures { λ _. ⌜ now (out .exit) ≡ table (valueIn format (now (block .entry))) (blockValues format) ⌝ }
+{
+    match format {
+        Format::Of32(f) => decode_32(f, block, out),
+        Format::OfK(f) => decode_k(f, block, out),
+    }
+}
+
+// The values of the whole blocks of `bytes`, at the front of the output.
+pub fn decode_blocks(format: Format, bytes: &[u8], out: &mut [f32])
+    requires { ⌜ valuesOf format (length (now bytes)) ≤ length (now out) ⌝ }
+    ensures { λ _. ⌜ now (out .exit) ≡ filled (weightAt format (now (bytes .entry))) (now (out .entry)) (valuesOf format (length (now (bytes .entry)))) ⌝ }
+{
+    let size = block_bytes(format);
+    let values = block_values(format);
+    let count = bytes.len() / size;
+    let mut b: usize = 0;
+    while b < count {
+        let from = b * size;
+        let to = from + size;
+        let at = b * values;
+        let end = at + values;
+        decode_block(format, &bytes[from..to], &mut out[at..end]);
+        b += 1;
+    }
+}
+
+// Why a decoder of n bytes into `room` places says no; 0 where it does not.
+fn dequantize_no(format: Format, n: usize, room: usize) -> u32
+    ensures { λ r. ⌜ r ≡ dequantizeNo format n room ⌝ }
+{
+    let size = block_bytes(format);
+    if n > refusals::MOST_BYTES {
+        return refusals::TOO_LARGE;
+    }
+    if n % size != 0 {
+        return refusals::NOT_WHOLE_BLOCKS;
+    }
+    if room < n / size * block_values(format) {
+        return refusals::ROOM_SHORT;
+    }
+    0
+}
+
+fn dequantize(format: Format, bytes: &[u8], out: &mut [f32]) -> Outcome
+    ensures { λ r. ⌜ (outcomeSays r, now (out .exit)) ≡ dequantizeSays format (now (bytes .entry)) (now (out .entry)) ⌝ }
+{
+    let no = dequantize_no(format, bytes.len(), out.len());
+    if no != 0 {
+        return Outcome::Refused(no);
+    }
+    decode_blocks(format, bytes, out);
+    Outcome::Done
+}
+
+pub fn dequantize_q4_0(bytes: &[u8], out: &mut [f32]) -> Outcome
+    ensures { λ r. ⌜ (outcomeSays r, now (out .exit)) ≡ dequantizeSays (Format.Of32 Format32.Q40) (now (bytes .entry)) (now (out .entry)) ⌝ }
+{
+    dequantize(Format::Of32(Format32::Q40), bytes, out)
+}
+
+pub fn dequantize_q5_0(bytes: &[u8], out: &mut [f32]) -> Outcome
+    ensures { λ r. ⌜ (outcomeSays r, now (out .exit)) ≡ dequantizeSays (Format.Of32 Format32.Q50) (now (bytes .entry)) (now (out .entry)) ⌝ }
+{
+    dequantize(Format::Of32(Format32::Q50), bytes, out)
+}
+
+pub fn dequantize_q8_0(bytes: &[u8], out: &mut [f32]) -> Outcome
+    ensures { λ r. ⌜ (outcomeSays r, now (out .exit)) ≡ dequantizeSays (Format.Of32 Format32.Q80) (now (bytes .entry)) (now (out .entry)) ⌝ }
+{
+    dequantize(Format::Of32(Format32::Q80), bytes, out)
+}
+
+pub fn dequantize_q4_k(bytes: &[u8], out: &mut [f32]) -> Outcome
+    ensures { λ r. ⌜ (outcomeSays r, now (out .exit)) ≡ dequantizeSays (Format.OfK FormatK.Q4K) (now (bytes .entry)) (now (out .entry)) ⌝ }
+{
+    dequantize(Format::OfK(FormatK::Q4K), bytes, out)
+}
+
+pub fn dequantize_q6_k(bytes: &[u8], out: &mut [f32]) -> Outcome
+    ensures { λ r. ⌜ (outcomeSays r, now (out .exit)) ≡ dequantizeSays (Format.OfK FormatK.Q6K) (now (bytes .entry)) (now (out .entry)) ⌝ }
+{
+    dequantize(Format::OfK(FormatK::Q6K), bytes, out)
+}

@@ -1,0 +1,127 @@
+// The formats with 32 values to a block: a scale, and 32 whole numbers that it multiplies.
+use crate::format::Format32;
+ghost use mathlib.Core.Path.{_≡_};
+ghost use Prim.Native.Nat.{_+_, _*_, _/_, _%_, _≤_, _<_};
+ghost use lib.IntN.{pos, _-ℤ_};
+ghost use lib.ListN.{length, getD};
+ghost use lib.Ieee.{binary32, mul, ofInt};
+ghost use Rattle.memory.specs.Lists.{table};
+ghost use Rattle.layouts.specs.Formats.{bytes32};
+ghost use Rattle.layouts.specs.Of32.{quant32, value32};
+
+// n less k.
+pub fn less(n: u8, k: u8) -> i8
+    requires { ⌜ (n < 64) × (k ≤ 64) ⌝ }
+    ensures { λ r. ⌜ r ≡ pos n -ℤ pos k ⌝ }
+{
+    n as i8 - k as i8
+}
+
+// Sixteen bytes' low nibbles less 8, and their high ones: side by side they are vectors, as neighbours they would not be.
+fn low_nibbles(bytes: &[u8]) -> [i8; 16]
+    requires { ⌜ length (now bytes) ≡ 16 ⌝ }
+    ensures { λ r. ⌜ r ≡ table (λ k. pos (getD (now (bytes .entry)) k 0 % 16) -ℤ pos 8) 16 ⌝ }
+{
+    let mut q = [0i8; 16];
+    for k in 0..16usize {
+        q[k] = less(bytes[k] % 16, 8);
+    }
+    q
+}
+
+fn high_nibbles(bytes: &[u8]) -> [i8; 16]
+    requires { ⌜ length (now bytes) ≡ 16 ⌝ }
+    ensures { λ r. ⌜ r ≡ table (λ k. pos (getD (now (bytes .entry)) k 0 / 16) -ℤ pos 8) 16 ⌝ }
+{
+    let mut q = [0i8; 16];
+    for k in 0..16usize {
+        q[k] = less(bytes[k] / 16, 8);
+    }
+    q
+}
+
+// Q4_0's whole numbers: byte k's low and high nibbles are neighbours.
+fn quants_q4_0(block: &[u8]) -> [i8; 32]
+    requires { ⌜ length (now block) ≡ 18 ⌝ }
+    ensures { λ r. ⌜ r ≡ table (quant32 Format32.Q40 (now (block .entry))) 32 ⌝ }
+{
+    let low = low_nibbles(&block[2..18]);
+    let high = high_nibbles(&block[2..18]);
+    let mut q = [0i8; 32];
+    for k in 0..16usize {
+        q[2 * k] = low[k];
+        q[2 * k + 1] = high[k];
+    }
+    q
+}
+
+// A nibble with the lowest bit of h above it, less 16.
+fn with_high_bit(nibble: u8, h: u32) -> i8
+    requires { ⌜ nibble < 16 ⌝ }
+    ensures { λ r. ⌜ r ≡ pos (nibble + 16 * (h % 2)) -ℤ pos 16 ⌝ }
+{
+    less(nibble + (16 * (h % 2)) as u8, 16)
+}
+
+// Q5_0's whole numbers: byte k's nibbles are at places k and k + 16, each with its high bit.
+fn quants_q5_0(block: &[u8]) -> [i8; 32]
+    requires { ⌜ length (now block) ≡ 22 ⌝ }
+    ensures { λ r. ⌜ r ≡ table (quant32 Format32.Q50 (now (block .entry))) 32 ⌝ }
+{
+    let high = numbers::le_u32(block[2], block[3], block[4], block[5]);
+    let mut q = [0i8; 32];
+    for k in 0..16usize {
+        let b = block[6 + k];
+        q[k] = with_high_bit(b % 16, high >> k);
+        q[k + 16] = with_high_bit(b / 16, high >> (k + 16));
+    }
+    q
+}
+
+// Q8_0's whole numbers: signed bytes.
+fn quants_q8_0(block: &[u8]) -> [i8; 32]
+    requires { ⌜ length (now block) ≡ 34 ⌝ }
+    ensures { λ r. ⌜ r ≡ table (quant32 Format32.Q80 (now (block .entry))) 32 ⌝ }
+{
+    let mut q = [0i8; 32];
+    for k in 0..32usize {
+        q[k] = numbers::signed_byte(block[2 + k]);
+    }
+    q
+}
+
+// A block's 32 whole numbers.
+fn quants_32(format: Format32, block: &[u8]) -> [i8; 32]
+    requires { ⌜ length (now block) ≡ bytes32 format ⌝ }
+    ensures { λ r. ⌜ r ≡ table (quant32 format (now (block .entry))) 32 ⌝ }
+{
+    match format {
+        Format32::Q40 => quants_q4_0(block),
+        Format32::Q50 => quants_q5_0(block),
+        Format32::Q80 => quants_q8_0(block),
+    }
+}
+
+// A run of 16 whole numbers, each times the scale s.
+pub fn scale_run(q: &[i8], s: f32, out: &mut [f32])
+    requires { ⌜ (length (now q) ≡ 16) × (length (now out) ≡ 16) ⌝ }
+    ensures { λ _. ⌜ now (out .exit) ≡ table (λ l. mul binary32 s (ofInt binary32 (getD (now (q .entry)) l (pos 0)))) 16 ⌝ }
+{
+    for l in 0..16usize {
+        out[l] = s * q[l] as f32;
+    }
+}
+
+// One block's 32 values.
+pub fn decode_32(format: Format32, block: &[u8], out: &mut [f32])
+    requires { ⌜ (length (now block) ≡ bytes32 format) × (length (now out) ≡ 32) ⌝ }
+    ensures { λ _. ⌜ now (out .exit) ≡ table (value32 format (now (block .entry))) 32 ⌝ }
+{
+    let s = numbers::f16_to_f32(numbers::le_u16(block[0], block[1]));
+    let q = quants_32(format, block);
+    for e in 0..2usize {
+        let at = 16 * e;
+        let end = at + 16;
+        scale_run(&q[at..end], s, &mut out[at..end]);
+    }
+}
