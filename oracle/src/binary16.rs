@@ -43,8 +43,8 @@ fn compare_f32_to_f16(comparison: &mut Comparison) {
     });
 }
 
-/// For each sign and exponent, zero digits, every power of two with the numbers beside it, and all
-/// digits set; then patterns at random. The payload is the half and the bits of its float.
+/// For each sign and exponent, every power of two as the digits, with the numbers beside it; then
+/// patterns at random. The payload is the half and the bits of its float.
 fn sample_f16_to_f32(records: &mut Records) {
     let mut store = |half: u16| {
         let answer = reach::f16_to_f32(half).to_bits();
@@ -67,8 +67,8 @@ fn sample_f16_to_f32(records: &mut Records) {
     }
 }
 
-/// For each sign and exponent, digits on both sides of each step of the ten that stay; then
-/// patterns at random. The payload is the pattern and the half.
+/// For each sign and exponent, digits around a step of the ten that are kept, at the bottom, in the
+/// middle and at the top; then patterns at random. The payload is the pattern and the half.
 fn sample_f32_to_f16(records: &mut Records) {
     let mut store = |bits: u32| {
         let answer = reach::f32_to_f16(f32::from_bits(bits));

@@ -12,6 +12,6 @@ pub struct Call {
     pub sample: fn(&mut Records),
 }
 
-/// Every call. A call's tag in the stored sample is its place here, from 1, so that a new one comes
+/// Every call. A call's tag in the stored sample is its place here, so that a new one comes
 /// last.
 pub static CALLS: [Call; 2] = [binary16::F16_TO_F32, binary16::F32_TO_F16];

@@ -26,7 +26,7 @@ impl Records {
 pub fn write() -> io::Result<()> {
     let mut sample = Vec::new();
     let mut text = String::new();
-    for (tag, call) in (1..).zip(&CALLS) {
+    for (tag, call) in (0..).zip(&CALLS) {
         let mut records = Records {
             tag,
             count: 0,
