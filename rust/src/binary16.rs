@@ -3,12 +3,14 @@ use crate::sys;
 
 /// The binary32 of a binary16's bits, as IEEE 754 has it: the same number, with its sign; a NaN for
 /// a NaN.
+#[inline]
 pub fn f16_to_f32(half: u16) -> f32 {
     sys::jambharrow_f16_to_f32(half)
 }
 
 /// The bits of the binary16 that quant.rs makes of `f`. Digits that do not fit are cut, a magnitude
 /// below 2^-14 becomes a signed zero, and one too large an infinity of that sign; so does a NaN.
+#[inline]
 pub fn f32_to_f16(f: f32) -> u16 {
     sys::jambharrow_f32_to_f16(f.to_bits())
 }
