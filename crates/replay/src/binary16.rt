@@ -1,0 +1,20 @@
+// Binary16. A payload is the half and the bits of its float, or the bits of a float and its half.
+use crate::findings::Finding;
+
+pub fn judge_f16_to_f32(payload: &[u8]) -> Finding {
+    if payload.len() != 6 {
+        return Finding::Malformed;
+    }
+    let half = numbers::le_u16(payload[0], payload[1]);
+    let answer = numbers::le_u32(payload[2], payload[3], payload[4], payload[5]);
+    Finding::of_floats(numbers::f16_to_f32(half), numbers::of_bits(answer))
+}
+
+pub fn judge_f32_to_f16(payload: &[u8]) -> Finding {
+    if payload.len() != 6 {
+        return Finding::Malformed;
+    }
+    let bits = numbers::le_u32(payload[0], payload[1], payload[2], payload[3]);
+    let answer = numbers::le_u16(payload[4], payload[5]);
+    Finding::of_same(numbers::f32_to_f16(bits) == answer)
+}

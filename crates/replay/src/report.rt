@@ -1,0 +1,41 @@
+// What the replay prints.
+use crate::calls::CALLS;
+use crate::calls::print_name;
+use crate::findings::Finding;
+use libc::STDOUT_FILENO;
+
+fn print_call(call: usize, answers: u64, differ: u64) {
+    print_name(call);
+    io::write_all(STDOUT_FILENO, b": ");
+    io::print_decimal(STDOUT_FILENO, answers);
+    io::write_all(STDOUT_FILENO, b" answers, ");
+    io::print_decimal(STDOUT_FILENO, differ);
+    io::write_all(STDOUT_FILENO, b" differ\n");
+}
+
+// A line for each call: how many answers were replayed, and how many of ours differ.
+pub fn print_calls(answers: [u64; CALLS], differ: [u64; CALLS]) {
+    for call in 0..CALLS {
+        print_call(call, answers[call], differ[call]);
+    }
+}
+
+// Why the sample cannot be read on; nothing, where it was read to its end.
+pub fn print_end(finding: Finding, tag: u8, at: u64) {
+    match finding {
+        Finding::Unknown => {
+            io::write_all(STDOUT_FILENO, b"unknown tag ");
+            io::print_decimal(STDOUT_FILENO, tag as u64);
+        }
+        Finding::Malformed => {
+            io::write_all(STDOUT_FILENO, b"malformed record");
+        }
+        Finding::Cut => {
+            io::write_all(STDOUT_FILENO, b"cut record");
+        }
+        _ => return,
+    }
+    io::write_all(STDOUT_FILENO, b" at byte ");
+    io::print_decimal(STDOUT_FILENO, at);
+    io::write_all(STDOUT_FILENO, b"\n");
+}

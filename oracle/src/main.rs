@@ -1,0 +1,67 @@
+//! Holds Jambharrow to the Rust, call by call, and stores a sample of the Rust's answers.
+mod binary16;
+mod calls;
+mod compare;
+mod sample;
+
+use calls::{Call, CALLS};
+use compare::Comparison;
+use std::env;
+use std::process::ExitCode;
+
+const USAGE: &str = "\
+oracle compare [CALL..]   compares ours with the Rust, on the calls named or on all;
+                          status 1 where an answer differs
+oracle sample             writes the stored sample that the program `replay` replays";
+
+fn main() -> ExitCode {
+    let words: Vec<String> = env::args().skip(1).collect();
+    let words: Vec<&str> = words.iter().map(String::as_str).collect();
+    match words[..] {
+        ["compare", ref names @ ..] => match chosen(names) {
+            Ok(calls) => compare_all(&calls),
+            Err(name) => misused(&format!("no call has the name {name}")),
+        },
+        ["sample"] => match sample::write() {
+            Ok(()) => ExitCode::SUCCESS,
+            Err(error) => {
+                eprintln!("oracle: the sample: {error}");
+                ExitCode::FAILURE
+            }
+        },
+        _ => misused(USAGE),
+    }
+}
+
+fn misused(why: &str) -> ExitCode {
+    eprintln!("{why}");
+    ExitCode::from(2)
+}
+
+/// The calls of the names given, all where none is; or the name that no call has.
+fn chosen<'a>(names: &[&'a str]) -> Result<Vec<&'static Call>, &'a str> {
+    if names.is_empty() {
+        return Ok(CALLS.iter().collect());
+    }
+    names
+        .iter()
+        .map(|&name| CALLS.iter().find(|call| call.name == name).ok_or(name))
+        .collect()
+}
+
+fn compare_all(calls: &[&Call]) -> ExitCode {
+    let mut compared = 0;
+    let mut differ = 0;
+    for call in calls {
+        let mut comparison = Comparison::of(call.name);
+        (call.compare)(&mut comparison);
+        compared += comparison.compared;
+        differ += comparison.differ;
+    }
+    println!("in all: {compared} compared, {differ} differ");
+    if differ == 0 {
+        ExitCode::SUCCESS
+    } else {
+        ExitCode::FAILURE
+    }
+}

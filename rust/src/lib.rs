@@ -1,0 +1,25 @@
+//! The arithmetic of a small quantised network for a pressure logger. The work is done by a library
+//! that is proved to meet its contracts; these functions are the safe way to it from Rust. They
+//! need no set-up, keep nothing between calls and take no memory from the heap.
+//!
+//! A function has the name and the parameters of the one of quant.rs that it answers for. Where a
+//! result is a NaN, its bits may be those of any NaN; every other result has the bits of quant.rs,
+//! within the sizes below.
+
+mod binary16;
+mod refusal;
+mod sys;
+
+pub use binary16::{f16_to_f32, f32_to_f16};
+pub use refusal::Refusal;
+
+/// n and in_feat at most.
+pub const MOST_IN: usize = 131_072;
+/// out_feat at most.
+pub const MOST_OUT: usize = 65_536;
+/// batch at most.
+pub const MOST_BATCH: usize = 1_024;
+/// Floats at most, where a quantizer or `canonical_chunk` is given them.
+pub const MOST_FLOATS: usize = 131_072;
+/// Bytes at most, where a block decoder is given them.
+pub const MOST_BYTES: usize = 16_777_216;
