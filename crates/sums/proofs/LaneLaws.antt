@@ -73,9 +73,9 @@ adding-done l p n out i h a = let e : i ≡ n = omega arith in rw e at (a .2)
 abbrev pub Eights : List Float → (ℕ → Float) → ℕ → List Float → ℕ → Type 0
 Eights l p n out s = (s ≤ n) × (s % 8 ≡ 0) × (out ≡ lanesFrom l p s)
 
-pub eights-more : (l : List Float) (p q : ℕ → Float) (n : ℕ) (out next : List Float) (s : ℕ) → s + 8 ≤ n → ((i : ℕ) → i < 8 → q i ≡ p (s + i)) → next ≡ lanesFrom out q 8
+pub eights-more : (l : List Float) (p q : ℕ → Float) (n k : ℕ) (out next : List Float) (s : ℕ) → k ≡ 8 → s + 8 ≤ n → ((i : ℕ) → i < k → q i ≡ p (s + i)) → next ≡ lanesFrom out q k
     → Eights l p n out s → Eights l p n next (s + 8)
-eights-more l p q n out next s h t e u = (h, omega arith, e ∙ lanes-block l out p q s 8 (u .1) t (u .2))
+eights-more l p q n k out next s g h t e u = (h, omega arith, e ∙ lanes-block l out p q s k (u .1) t (u .2) ∙ ap (λ (j : ℕ). lanesFrom l p (s + j)) g)
 
 -- the last, fewer than eight
 pub eights-done : (l : List Float) (p q : ℕ → Float) (n k : ℕ) (out next : List Float) (s : ℕ) → s + k ≡ n → ((i : ℕ) → i < k → q i ≡ p (s + i)) → next ≡ lanesFrom out q k

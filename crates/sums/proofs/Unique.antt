@@ -6,8 +6,8 @@ use denote.Ref.{now}
 use Rattle.refusals.proofs.Once.{OneResult, OneCall, same, one-answer}
 use Rattle.sums.proofs.tree.canonical_combine.Reads as combine
 use Rattle.sums.proofs.lanes.canonical_chunk.Reads as chunk
-use Rattle.sums.proofs.rows.canonical_dot_pub.Reads as dot
-use Rattle.sums.proofs.rows.canonical_sum_pub.Reads as sum
+use Rattle.sums.proofs.dot.canonical_dot_pub.Reads as dot
+use Rattle.sums.proofs.sum.canonical_sum_pub.Reads as sum
 
 -- `canonical_combine`: its result, and the list that it leaves in its caller's slice
 pub combine-once : OneCall combine.Post (λ κs s. now (s .0))

@@ -1,6 +1,6 @@
-// The eight lanes: element i of a chunk is added to lane i mod 8, and the lanes meet in the tree. They are passed by value, eight elements at a time, so that they stay in registers.
+// The eight lanes: term i of a chunk is added to lane i mod 8, and the lanes meet in the tree. They go by value, eight terms at a time, so that they stay in registers.
 ghost use mathlib.Core.Path.{_≡_};
-ghost use Prim.Native.Nat.{_<_, _≤_};
+ghost use Prim.Native.Nat.{_≤_};
 ghost use lib.ListN.{length};
 ghost use Rattle.refusals.specs.Said.{saidBy};
 ghost use Rattle.sums.specs.Lanes.{lanesFrom, chunkSum, products, values};
@@ -8,23 +8,9 @@ ghost use Rattle.sums.specs.Says.{chunkSays};
 use crate::tree::tree8;
 use refusals::Answer;
 
-// Eight products, one for each lane.
+// Eight products at most, one for each lane. It is inlined where there are eight, and there the loop is of that length.
 fn eight_products(l: [f32; 8], x: &[f32], w: &[f32]) -> [f32; 8]
-    requires { ⌜ (length (now x) ≡ 8) × (length (now w) ≡ 8) ⌝ }
-    ensures { λ r. ⌜ r ≡ lanesFrom l (products (now (x .entry)) (now (w .entry))) 8 ⌝ }
-{
-    let mut out = l;
-    let mut i: usize = 0;
-    while i < 8 {
-        out[i] = out[i] + x[i] * w[i];
-        i += 1;
-    }
-    out
-}
-
-// The last products, fewer than eight.
-fn rest_products(l: [f32; 8], x: &[f32], w: &[f32]) -> [f32; 8]
-    requires { ⌜ (length (now x) < 8) × (length (now x) ≤ length (now w)) ⌝ }
+    requires { ⌜ (length (now x) ≤ 8) × (length (now x) ≤ length (now w)) ⌝ }
     ensures { λ r. ⌜ r ≡ lanesFrom l (products (now (x .entry)) (now (w .entry))) (length (now (x .entry))) ⌝ }
 {
     let mut out = l;
@@ -50,10 +36,10 @@ pub fn add_products(l: [f32; 8], x: &[f32], w: &[f32]) -> [f32; 8]
         out = next;
         s = e;
     }
-    rest_products(out, &x[s..], &w[s..])
+    eight_products(out, &x[s..], &w[s..])
 }
 
-// The dot of one chunk.
+// The dot of one chunk, all of x.
 pub fn chunk_dot(x: &[f32], w: &[f32]) -> f32
     requires { ⌜ length (now x) ≤ length (now w) ⌝ }
     ensures { λ r. ⌜ r ≡ chunkSum (products (now (x .entry)) (now (w .entry))) (length (now (x .entry))) ⌝ }
@@ -61,23 +47,23 @@ pub fn chunk_dot(x: &[f32], w: &[f32]) -> f32
     tree8(add_products([0.0f32; 8], x, w))
 }
 
-// Eight values, one for each lane.
-fn eight_values(l: [f32; 8], x: &[f32]) -> [f32; 8]
-    requires { ⌜ length (now x) ≡ 8 ⌝ }
-    ensures { λ r. ⌜ r ≡ lanesFrom l (values (now (x .entry))) 8 ⌝ }
+// The dot of all of x as one chunk. Refuses 6 and 3, in this order.
+pub fn canonical_chunk(x: &[f32], w: &[f32]) -> Answer
+    ensures { λ r. ⌜ saidBy r ≡ chunkSays (now (x .entry)) (now (w .entry)) ⌝ }
 {
-    let mut out = l;
-    let mut i: usize = 0;
-    while i < 8 {
-        out[i] = out[i] + x[i];
-        i += 1;
+    let n = x.len();
+    if n > refusals::MOST_FLOATS {
+        return Answer::Refused(refusals::TOO_LARGE);
     }
-    out
+    if w.len() < n {
+        return Answer::Refused(refusals::WEIGHTS_SHORT);
+    }
+    Answer::Value(chunk_dot(x, w))
 }
 
-// The last values, fewer than eight.
-fn rest_values(l: [f32; 8], x: &[f32]) -> [f32; 8]
-    requires { ⌜ length (now x) < 8 ⌝ }
+// Eight values at most, one for each lane: `eight_products` without weights.
+fn eight_values(l: [f32; 8], x: &[f32]) -> [f32; 8]
+    requires { ⌜ length (now x) ≤ 8 ⌝ }
     ensures { λ r. ⌜ r ≡ lanesFrom l (values (now (x .entry))) (length (now (x .entry))) ⌝ }
 {
     let mut out = l;
@@ -102,26 +88,12 @@ fn add_values(l: [f32; 8], x: &[f32]) -> [f32; 8]
         out = next;
         s = e;
     }
-    rest_values(out, &x[s..])
+    eight_values(out, &x[s..])
 }
 
-// The sum of one chunk's values.
+// The sum of one chunk, all of x.
 pub fn chunk_total(x: &[f32]) -> f32
     ensures { λ r. ⌜ r ≡ chunkSum (values (now (x .entry))) (length (now (x .entry))) ⌝ }
 {
     tree8(add_values([0.0f32; 8], x))
-}
-
-// The dot of all of x as one chunk. Refuses 6 and 3.
-pub fn canonical_chunk(x: &[f32], w: &[f32]) -> Answer
-    ensures { λ r. ⌜ saidBy r ≡ chunkSays (now (x .entry)) (now (w .entry)) ⌝ }
-{
-    let n = x.len();
-    if n > refusals::MOST_FLOATS {
-        return Answer::Refused(refusals::TOO_LARGE);
-    }
-    if w.len() < n {
-        return Answer::Refused(refusals::WEIGHTS_SHORT);
-    }
-    Answer::Value(chunk_dot(x, w))
 }

@@ -58,41 +58,41 @@ loop-again c =
     let b = c .before .before .before .before in
     let a = b .before .before .before .args in
     let s = b .loop .s in
-    eights-more (a .l) (products (a .x .now) (a .w .now)) _ _ (b .loop .out) _ s (omega arith) (λ i h. products-part (a .x .now) (a .w .now) s (s + 8 - s) (s + 8 - s) i (omega arith) (omega arith)) (c .eight-products .ensures) (b .loop .inv)
+    eights-more (a .l) (products (a .x .now) (a .w .now)) _ _ _ (b .loop .out) _ s (omega arith) (omega arith) (λ i h. products-part (a .x .now) (a .w .now) s (s + 8 - s) (s + 8 - s) i (omega arith) (omega arith)) (c .eight-products .ensures) (b .loop .inv)
 
-mul-rest-products : tie.Need-mul-rest-products Inv-loop μ-loop
-mul-rest-products c = omega arith
+mul-eight-products-3 : tie.Need-mul-eight-products-3 Inv-loop μ-loop
+mul-eight-products-3 c = omega arith
 
-sub-rest-products : tie.Need-sub-rest-products Inv-loop μ-loop
-sub-rest-products c = omega arith
+sub-eight-products-3 : tie.Need-sub-eight-products-3 Inv-loop μ-loop
+sub-eight-products-3 c = omega arith
 
-part-rest-products-start : tie.Need-part-rest-products-start Inv-loop μ-loop
-part-rest-products-start c = omega arith
+part-eight-products-start-3 : tie.Need-part-eight-products-start-3 Inv-loop μ-loop
+part-eight-products-start-3 c = omega arith
 
-part-rest-products-end : tie.Need-part-rest-products-end Inv-loop μ-loop
-part-rest-products-end c = omega arith
+part-eight-products-end-3 : tie.Need-part-eight-products-end-3 Inv-loop μ-loop
+part-eight-products-end-3 c = omega arith
 
-mul-rest-products-2 : tie.Need-mul-rest-products-2 Inv-loop μ-loop
-mul-rest-products-2 c = omega arith
+mul-eight-products-4 : tie.Need-mul-eight-products-4 Inv-loop μ-loop
+mul-eight-products-4 c = omega arith
 
-sub-rest-products-2 : tie.Need-sub-rest-products-2 Inv-loop μ-loop
-sub-rest-products-2 c = omega arith
+sub-eight-products-4 : tie.Need-sub-eight-products-4 Inv-loop μ-loop
+sub-eight-products-4 c = omega arith
 
-part-rest-products-start-2 : tie.Need-part-rest-products-start-2 Inv-loop μ-loop
-part-rest-products-start-2 c = omega arith
+part-eight-products-start-4 : tie.Need-part-eight-products-start-4 Inv-loop μ-loop
+part-eight-products-start-4 c = omega arith
 
-part-rest-products-end-2 : tie.Need-part-rest-products-end-2 Inv-loop μ-loop
-part-rest-products-end-2 c = omega arith
+part-eight-products-end-4 : tie.Need-part-eight-products-end-4 Inv-loop μ-loop
+part-eight-products-end-4 c = omega arith
 
-rest-products-requires : tie.Need-rest-products-requires Inv-loop μ-loop
-rest-products-requires c κs = omega arith
+eight-products-requires-2 : tie.Need-eight-products-requires-2 Inv-loop μ-loop
+eight-products-requires-2 c κs = omega arith
 
 returns : tie.Need-returns Inv-loop μ-loop
 returns c =
     let b = c .before .before .before .before in
     let a = b .before .before .before .args in
     let s = b .loop .s in
-    eights-done (a .l) (products (a .x .now) (a .w .now)) _ _ _ (b .loop .out) _ s (omega arith) (λ i h. products-part (a .x .now) (a .w .now) s (length (a .x .now) - s) (length (a .w .now) - s) i (omega arith) (omega arith)) (c .rest-products .ensures) (b .loop .inv)
+    eights-done (a .l) (products (a .x .now) (a .w .now)) _ _ _ (b .loop .out) _ s (omega arith) (λ i h. products-part (a .x .now) (a .w .now) s (length (a .x .now) - s) (length (a .w .now) - s) i (omega arith) (omega arith)) (c .eight-products2 .ensures) (b .loop .inv)
 
 pub add-products-spec : {M : Type 1} → statement M
 add-products-spec =
@@ -114,13 +114,13 @@ add-products-spec =
     eight-products-requires
     loop-less
     loop-again
-    mul-rest-products
-    sub-rest-products
-    part-rest-products-start
-    part-rest-products-end
-    mul-rest-products-2
-    sub-rest-products-2
-    part-rest-products-start-2
-    part-rest-products-end-2
-    rest-products-requires
+    mul-eight-products-3
+    sub-eight-products-3
+    part-eight-products-start-3
+    part-eight-products-end-3
+    mul-eight-products-4
+    sub-eight-products-4
+    part-eight-products-start-4
+    part-eight-products-end-4
+    eight-products-requires-2
     returns)

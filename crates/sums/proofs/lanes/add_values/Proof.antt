@@ -46,29 +46,29 @@ loop-again c =
     let b = c .before .before .before in
     let a = b .before .before .args in
     let s = b .loop .s in
-    eights-more (a .l) (values (a .x .now)) _ _ (b .loop .out) _ s (omega arith) (λ i h. values-part (a .x .now) s (s + 8 - s) i (omega arith)) (c .eight-values .ensures) (b .loop .inv)
+    eights-more (a .l) (values (a .x .now)) _ _ _ (b .loop .out) _ s (omega arith) (omega arith) (λ i h. values-part (a .x .now) s (s + 8 - s) i (omega arith)) (c .eight-values .ensures) (b .loop .inv)
 
-mul-rest-values : tie.Need-mul-rest-values Inv-loop μ-loop
-mul-rest-values c = omega arith
+mul-eight-values-2 : tie.Need-mul-eight-values-2 Inv-loop μ-loop
+mul-eight-values-2 c = omega arith
 
-sub-rest-values : tie.Need-sub-rest-values Inv-loop μ-loop
-sub-rest-values c = omega arith
+sub-eight-values-2 : tie.Need-sub-eight-values-2 Inv-loop μ-loop
+sub-eight-values-2 c = omega arith
 
-part-rest-values-start : tie.Need-part-rest-values-start Inv-loop μ-loop
-part-rest-values-start c = omega arith
+part-eight-values-start-2 : tie.Need-part-eight-values-start-2 Inv-loop μ-loop
+part-eight-values-start-2 c = omega arith
 
-part-rest-values-end : tie.Need-part-rest-values-end Inv-loop μ-loop
-part-rest-values-end c = omega arith
+part-eight-values-end-2 : tie.Need-part-eight-values-end-2 Inv-loop μ-loop
+part-eight-values-end-2 c = omega arith
 
-rest-values-requires : tie.Need-rest-values-requires Inv-loop μ-loop
-rest-values-requires c κs = omega arith
+eight-values-requires-2 : tie.Need-eight-values-requires-2 Inv-loop μ-loop
+eight-values-requires-2 c κs = omega arith
 
 returns : tie.Need-returns Inv-loop μ-loop
 returns c =
     let b = c .before .before .before in
     let a = b .before .before .args in
     let s = b .loop .s in
-    eights-done (a .l) (values (a .x .now)) _ _ _ (b .loop .out) _ s (omega arith) (λ i h. values-part (a .x .now) s (length (a .x .now) - s) i (omega arith)) (c .rest-values .ensures) (b .loop .inv)
+    eights-done (a .l) (values (a .x .now)) _ _ _ (b .loop .out) _ s (omega arith) (λ i h. values-part (a .x .now) s (length (a .x .now) - s) i (omega arith)) (c .eight-values2 .ensures) (b .loop .inv)
 
 pub add-values-spec : {M : Type 1} → statement M
 add-values-spec =
@@ -86,9 +86,9 @@ add-values-spec =
     eight-values-requires
     loop-less
     loop-again
-    mul-rest-values
-    sub-rest-values
-    part-rest-values-start
-    part-rest-values-end
-    rest-values-requires
+    mul-eight-values-2
+    sub-eight-values-2
+    part-eight-values-start-2
+    part-eight-values-end-2
+    eight-values-requires-2
     returns)

@@ -1,19 +1,20 @@
 -- `lanes::eight_products` meets its contract. Assumes nothing.
 use Prim.Native.Nat.{_-_}
 use native.Mathlib.Omega.{arith}
+use lib.ListN.{length}
 use Rattle.sums.specs.Lanes.{products}
 use Rattle.sums.proofs.LaneLaws.{Adding, adding-start, adding-more, adding-done}
 use Rattle.sums.proofs.lanes.eight_products.Statement.{statement}
 use Rattle.sums.proofs.lanes.eight_products.Tie as tie
 
 abbrev Inv-loop : tie.InvT-loop
-Inv-loop x w out₀ i₀ out i = Adding out₀ (products x w) 8 out i
+Inv-loop x w out₀ i₀ out i = Adding out₀ (products x w) (length x) out i
 
 abbrev μ-loop : tie.MeasureT-loop
-μ-loop x w out₀ i₀ out i = 8 - i
+μ-loop x w out₀ i₀ out i = length x - i
 
 loop-holds : tie.Need-loop-holds Inv-loop μ-loop
-loop-holds c = adding-start (c .args .l) (products (c .args .x .now) (c .args .w .now)) 8 (omega arith)
+loop-holds c = adding-start (c .args .l) (products (c .args .x .now) (c .args .w .now)) (length (c .args .x .now)) (omega arith)
 
 mul-out : tie.Need-mul-out Inv-loop μ-loop
 mul-out c = omega arith
@@ -49,13 +50,13 @@ loop-again : tie.Need-loop-again Inv-loop μ-loop
 loop-again c =
     let b = c .before .before .before in
     let a = b .before .args in
-    adding-more (a .l) (products (a .x .now) (a .w .now)) 8 (b .loop .out) (b .loop .i) (omega arith) (omega arith) (b .loop .inv)
+    adding-more (a .l) (products (a .x .now) (a .w .now)) (length (a .x .now)) (b .loop .out) (b .loop .i) (omega arith) (omega arith) (b .loop .inv)
 
 returns : tie.Need-returns Inv-loop μ-loop
 returns c =
     let b = c .before in
     let a = b .before .args in
-    adding-done (a .l) (products (a .x .now) (a .w .now)) 8 (b .loop .out) (b .loop .i) (omega arith) (b .loop .inv)
+    adding-done (a .l) (products (a .x .now) (a .w .now)) (length (a .x .now)) (b .loop .out) (b .loop .i) (omega arith) (b .loop .inv)
 
 pub eight-products-spec : {M : Type 1} → statement M
 eight-products-spec =

@@ -1,21 +1,21 @@
--- `rows::row_total` meets its contract. Assumes nothing.
+-- `dot::row_dot` meets its contract. Assumes nothing.
 use mathlib.Core.Path.{_≡_, refl, sym, _∙_}
 use Prim.Native.Nat.{_-_, _*_, _≤_}
 use native.Mathlib.Omega.{arith}
 use lib.Seq.{length-take-le}
 use Rattle.memory.proofs.Filled.{Filling, filling-start, filling-more}
-use Rattle.sums.specs.Lanes.{values}
+use Rattle.sums.specs.Lanes.{products}
 use Rattle.sums.specs.Rows.{chunksIn, chunkAt}
-use Rattle.sums.proofs.LaneLaws.{values-part}
+use Rattle.sums.proofs.LaneLaws.{products-part}
 use Rattle.sums.proofs.RowLaws.{chunk-part, row-met}
-use Rattle.sums.proofs.rows.row_total.Statement.{statement}
-use Rattle.sums.proofs.rows.row_total.Tie as tie
+use Rattle.sums.proofs.dot.row_dot.Statement.{statement}
+use Rattle.sums.proofs.dot.row_dot.Tie as tie
 
 abbrev Inv-loop : tie.InvT-loop
-Inv-loop x n chunks sums₀ c₀ sums c = (c ≤ chunksIn n) × Filling (chunkAt (values x) n) sums₀ 16 sums c
+Inv-loop x w n chunks sums₀ c₀ sums c = (c ≤ chunksIn n) × Filling (chunkAt (products x w) n) sums₀ 16 sums c
 
 abbrev μ-loop : tie.MeasureT-loop
-μ-loop x n chunks sums₀ c₀ sums c = chunksIn n - c
+μ-loop x w n chunks sums₀ c₀ sums c = chunksIn n - c
 
 chunks-in-requires : tie.Need-chunks-in-requires Inv-loop μ-loop
 chunks-in-requires c κs = omega arith
@@ -29,20 +29,32 @@ mul-s c = omega arith
 chunk-end-requires : tie.Need-chunk-end-requires Inv-loop μ-loop
 chunk-end-requires c κs = omega arith
 
-mul-chunk-total : tie.Need-mul-chunk-total Inv-loop μ-loop
-mul-chunk-total c = omega arith
+mul-chunk-dot : tie.Need-mul-chunk-dot Inv-loop μ-loop
+mul-chunk-dot c = omega arith
 
-sub-chunk-total : tie.Need-sub-chunk-total Inv-loop μ-loop
-sub-chunk-total c = omega arith
+sub-chunk-dot : tie.Need-sub-chunk-dot Inv-loop μ-loop
+sub-chunk-dot c = omega arith
 
-part-chunk-total-start : tie.Need-part-chunk-total-start Inv-loop μ-loop
-part-chunk-total-start c = omega arith
+part-chunk-dot-start : tie.Need-part-chunk-dot-start Inv-loop μ-loop
+part-chunk-dot-start c = omega arith
 
-part-chunk-total-end : tie.Need-part-chunk-total-end Inv-loop μ-loop
-part-chunk-total-end c = omega arith
+part-chunk-dot-end : tie.Need-part-chunk-dot-end Inv-loop μ-loop
+part-chunk-dot-end c = omega arith
 
-chunk-total-requires : tie.Need-chunk-total-requires Inv-loop μ-loop
-chunk-total-requires c κs = omega arith
+mul-chunk-dot-2 : tie.Need-mul-chunk-dot-2 Inv-loop μ-loop
+mul-chunk-dot-2 c = omega arith
+
+sub-chunk-dot-2 : tie.Need-sub-chunk-dot-2 Inv-loop μ-loop
+sub-chunk-dot-2 c = omega arith
+
+part-chunk-dot-start-2 : tie.Need-part-chunk-dot-start-2 Inv-loop μ-loop
+part-chunk-dot-start-2 c = omega arith
+
+part-chunk-dot-end-2 : tie.Need-part-chunk-dot-end-2 Inv-loop μ-loop
+part-chunk-dot-end-2 c = omega arith
+
+chunk-dot-requires : tie.Need-chunk-dot-requires Inv-loop μ-loop
+chunk-dot-requires c κs = omega arith
 
 mul-sums : tie.Need-mul-sums Inv-loop μ-loop
 mul-sums c = omega arith
@@ -58,12 +70,12 @@ loop-less c = omega arith
 
 loop-again : tie.Need-loop-again Inv-loop μ-loop
 loop-again c =
-    let t = c .before .before in
+    let t = c .before .before .before in
     let b = t .before .before in
-    let a = b .before .before .before .args in
+    let a = b .before .before .before .before .args in
     let s = 8192 * b .loop .c in
     let e = t .chunk-end .result in
-    let v = c .chunk-total .ensures ∙ chunk-part (values (a .x .now)) _ (a .n) (b .loop .c) _ (omega arith) (λ i h. values-part (a .x .now) s (e - s) i (omega arith)) in
+    let v = c .chunk-dot .ensures ∙ chunk-part (products (a .x .now) (a .w .now)) _ (a .n) (b .loop .c) _ (omega arith) (λ i h. products-part (a .x .now) (a .w .now) s (e - s) (e - s) i (omega arith) (omega arith)) in
     (omega arith, filling-more _ _ 16 (b .loop .sums) (b .loop .c) _ refl (b .loop .inv .1) (omega arith) v)
 
 array-borrow-prefix-sums : tie.Need-array-borrow-prefix-sums Inv-loop μ-loop
@@ -80,13 +92,13 @@ canonical-combine-requires c κs = omega arith
 returns : tie.Need-returns Inv-loop μ-loop
 returns c =
     let b = c .before .before .before .before in
-    let a = b .before .before .before .args in
+    let a = b .before .before .before .before .args in
     let m = b .before .chunks-in in
     let e : b .loop .c ≡ m .result = omega arith in
-    row-met (values (a .x .now)) (a .n) (m .result) _ (b .loop .sums) _ _ (m .ensures) (rw e at (b .loop .inv .1 .0)) (c .before .canonical-combine .ensures)
+    row-met (products (a .x .now) (a .w .now)) (a .n) (m .result) _ (b .loop .sums) _ _ (m .ensures) (rw e at (b .loop .inv .1 .0)) (c .before .canonical-combine .ensures)
 
-pub row-total-spec : {M : Type 1} → statement M
-row-total-spec =
+pub row-dot-spec : {M : Type 1} → statement M
+row-dot-spec =
     tie.close
     (tie.spec
     Inv-loop
@@ -95,11 +107,15 @@ row-total-spec =
     loop-holds
     mul-s
     chunk-end-requires
-    mul-chunk-total
-    sub-chunk-total
-    part-chunk-total-start
-    part-chunk-total-end
-    chunk-total-requires
+    mul-chunk-dot
+    sub-chunk-dot
+    part-chunk-dot-start
+    part-chunk-dot-end
+    mul-chunk-dot-2
+    sub-chunk-dot-2
+    part-chunk-dot-start-2
+    part-chunk-dot-end-2
+    chunk-dot-requires
     mul-sums
     array-write-sums
     add-c

@@ -1,11 +1,11 @@
--- `rows::canonical_dot_pub` meets its contract. Assumes nothing.
+-- `dot::canonical_dot_pub` meets its contract. Assumes nothing.
 use mathlib.Core.Path.{ap}
 use borrow.Author.Needs.{needs}
 use borrow.Author.Tests.{lt-ltb, le-ltb, eq-eqb, ne-eqb}
 use Rattle.refusals.specs.Said.{value}
 use Rattle.sums.specs.Says.{dotSays}
-use Rattle.sums.proofs.rows.canonical_dot_pub.Statement.{statement}
-use Rattle.sums.proofs.rows.canonical_dot_pub.Tie as tie
+use Rattle.sums.proofs.dot.canonical_dot_pub.Statement.{statement}
+use Rattle.sums.proofs.dot.canonical_dot_pub.Tie as tie
 
 returns : tie.Need-returns
 unfolding dotSays
