@@ -11,11 +11,6 @@ use Rattle.memory.specs.Lists.{part}
 use Rattle.memory.proofs.Filled.{getD-part}
 use Rattle.sums.specs.Lanes.{addTo, lanesFrom, products, values}
 
-pub length-lanesFrom : (l : List Float) (p : ℕ → Float) (n : ℕ) → length (lanesFrom l p n) ≡ length l
-unfolding lanesFrom addTo
-length-lanesFrom l p zero = refl
-length-lanesFrom l p (suc n) = simp length-set (length-lanesFrom l p n)
-
 pub lanes-none : (l : List Float) (p : ℕ → Float) → l ≡ lanesFrom l p 0
 unfolding lanesFrom
 lanes-none l p = refl

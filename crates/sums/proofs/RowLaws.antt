@@ -1,14 +1,15 @@
 -- Laws of chunks and rows, over any terms p. Assumes nothing.
 use mathlib.Core.Path.{_≡_, ap, _∙_}
 use mathlib.Core.List.{List}
-use Prim.Native.Nat.{ℕ, _+_, _-_, _*_, _<_}
+use Prim.Native.Nat.{ℕ, _+_, _-_, _*_, _≤_, _<_}
 use native.Mathlib.Nat.{min-le-right}
 use native.Mathlib.Omega.{arith}
-use lib.ListN.{take, drop}
+use lib.ListN.{length, take, drop, set}
 use lib.Seq.{take-at}
 use lib.Ieee.{Float}
+use Rattle.refusals.specs.Sizes.{mostIn}
 use Rattle.memory.specs.Lists.{table, filled}
-use Rattle.memory.proofs.Filled.{length-table, table-ext}
+use Rattle.memory.proofs.Filled.{length-table, table-ext, Filling, filling-start, filling-more}
 use Rattle.sums.specs.Tree.{tree, combined}
 use Rattle.sums.specs.Lanes.{lanes, chunkSum}
 use Rattle.sums.specs.Rows.{chunksIn, chunkLength, chunkAt, rowSum}
@@ -30,12 +31,24 @@ pub chunk-part : (p q : ℕ → Float) (n c k : ℕ) → k ≡ chunkLength n c �
 unfolding chunkAt
 chunk-part p q n c k e h = chunk-cong q (λ i. p (8192 * c + i)) k h ∙ ap (chunkSum (λ i. p (8192 * c + i))) e
 
--- The row sum as the tree over chunk sums: those of all chunks stand at the front of `sums`, where they meet.
-pub row-met : (p : ℕ → Float) (n c : ℕ) (xs sums left : List Float) (r : Float) → c ≡ chunksIn n → sums ≡ filled (chunkAt p n) xs c → (r, left) ≡ combined (take c sums)
-    → r ≡ rowSum p n
+-- ---- the sums of a row's chunks in an array of 16, which held old: after c of them it is sums
+
+abbrev pub Chunking : (ℕ → Float) → ℕ → List Float → List Float → ℕ → Type 0
+Chunking p n old sums c = (c ≤ chunksIn n) × Filling (chunkAt p n) old 16 sums c
+
+pub chunking-start : (p : ℕ → Float) (n : ℕ) (old : List Float) → length old ≡ 16 → Chunking p n old old 0
+chunking-start p n old e = (omega arith, filling-start (chunkAt p n) old 16 e)
+
+pub chunking-more : (p : ℕ → Float) (n : ℕ) (old sums : List Float) (c : ℕ) (v : Float) → length old ≡ 16 → n ≤ mostIn → c < chunksIn n → v ≡ chunkAt p n c
+    → Chunking p n old sums c → Chunking p n old (set sums c v) (c + 1)
+chunking-more p n old sums c v e m h q w = (omega arith, filling-more (chunkAt p n) old 16 sums c v e (w .1) (omega arith) q)
+
+-- The row sum as the tree over chunk sums: `canonical_combine`, handed the first k places of sums, one for each chunk, answers it.
+pub chunking-met : (p : ℕ → Float) (n : ℕ) (old sums left : List Float) (c k : ℕ) (r : Float) → c ≡ k → k ≡ chunksIn n → (r, left) ≡ combined (take k sums)
+    → Chunking p n old sums c → r ≡ rowSum p n
 unfolding rowSum
-row-met p n c xs sums left r e w g =
+chunking-met p n old sums left c k r b e g w =
     ap (λ (q : Float × List Float). q .0) g
-    ∙ ap (λ (l : List Float). tree (take c l)) w
-    ∙ ap tree (take-at (table (chunkAt p n) c) (drop c xs) c (length-table (chunkAt p n) c))
+    ∙ ap (λ (l : List Float). tree (take k l)) (w .1 .0 ∙ ap (filled (chunkAt p n) old) b)
+    ∙ ap tree (take-at (table (chunkAt p n) k) (drop k old) k (length-table (chunkAt p n) k))
     ∙ ap (λ (m : ℕ). tree (table (chunkAt p n) m)) e

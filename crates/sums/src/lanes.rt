@@ -40,7 +40,7 @@ pub fn add_products(l: [f32; 8], x: &[f32], w: &[f32]) -> [f32; 8]
 }
 
 // The dot of one chunk, all of x.
-pub fn chunk_dot(x: &[f32], w: &[f32]) -> f32
+pub(crate) fn chunk_dot(x: &[f32], w: &[f32]) -> f32
     requires { ⌜ length (now x) ≤ length (now w) ⌝ }
     ensures { λ r. ⌜ r ≡ chunkSum (products (now (x .entry)) (now (w .entry))) (length (now (x .entry))) ⌝ }
 {
@@ -92,7 +92,7 @@ fn add_values(l: [f32; 8], x: &[f32]) -> [f32; 8]
 }
 
 // The sum of one chunk, all of x.
-pub fn chunk_total(x: &[f32]) -> f32
+pub(crate) fn chunk_total(x: &[f32]) -> f32
     ensures { λ r. ⌜ r ≡ chunkSum (values (now (x .entry))) (length (now (x .entry))) ⌝ }
 {
     tree8(add_values([0.0f32; 8], x))

@@ -1,18 +1,17 @@
 -- `sum::row_total` meets its contract. Assumes nothing.
-use mathlib.Core.Path.{_≡_, refl, sym, _∙_}
-use Prim.Native.Nat.{_-_, _*_, _≤_}
+use mathlib.Core.Path.{refl, sym, _∙_}
+use Prim.Native.Nat.{_-_, _*_}
 use native.Mathlib.Omega.{arith}
 use lib.Seq.{length-take-le}
-use Rattle.memory.proofs.Filled.{Filling, filling-start, filling-more}
 use Rattle.sums.specs.Lanes.{values}
-use Rattle.sums.specs.Rows.{chunksIn, chunkAt}
+use Rattle.sums.specs.Rows.{chunksIn}
 use Rattle.sums.proofs.LaneLaws.{values-part}
-use Rattle.sums.proofs.RowLaws.{chunk-part, row-met}
+use Rattle.sums.proofs.RowLaws.{chunk-part, Chunking, chunking-start, chunking-more, chunking-met}
 use Rattle.sums.proofs.sum.row_total.Statement.{statement}
 use Rattle.sums.proofs.sum.row_total.Tie as tie
 
 abbrev Inv-loop : tie.InvT-loop
-Inv-loop x n chunks sums₀ c₀ sums c = (c ≤ chunksIn n) × Filling (chunkAt (values x) n) sums₀ 16 sums c
+Inv-loop x n chunks sums₀ c₀ sums c = Chunking (values x) n sums₀ sums c
 
 abbrev μ-loop : tie.MeasureT-loop
 μ-loop x n chunks sums₀ c₀ sums c = chunksIn n - c
@@ -21,7 +20,7 @@ chunks-in-requires : tie.Need-chunks-in-requires Inv-loop μ-loop
 chunks-in-requires c κs = omega arith
 
 loop-holds : tie.Need-loop-holds Inv-loop μ-loop
-loop-holds c = (omega arith, filling-start _ _ 16 refl)
+loop-holds c = chunking-start _ _ _ refl
 
 mul-s : tie.Need-mul-s Inv-loop μ-loop
 mul-s c = omega arith
@@ -64,7 +63,7 @@ loop-again c =
     let s = 8192 * b .loop .c in
     let e = t .chunk-end .result in
     let v = c .chunk-total .ensures ∙ chunk-part (values (a .x .now)) _ (a .n) (b .loop .c) _ (omega arith) (λ i h. values-part (a .x .now) s (e - s) i (omega arith)) in
-    (omega arith, filling-more _ _ 16 (b .loop .sums) (b .loop .c) _ refl (b .loop .inv .1) (omega arith) v)
+    chunking-more (values (a .x .now)) (a .n) _ (b .loop .sums) (b .loop .c) _ refl (omega arith) (omega arith) v (b .loop .inv)
 
 array-borrow-prefix-sums : tie.Need-array-borrow-prefix-sums Inv-loop μ-loop
 array-borrow-prefix-sums c = omega arith
@@ -82,8 +81,7 @@ returns c =
     let b = c .before .before .before .before in
     let a = b .before .before .before .args in
     let m = b .before .chunks-in in
-    let e : b .loop .c ≡ m .result = omega arith in
-    row-met (values (a .x .now)) (a .n) (m .result) _ (b .loop .sums) _ _ (m .ensures) (rw e at (b .loop .inv .1 .0)) (c .before .canonical-combine .ensures)
+    chunking-met (values (a .x .now)) (a .n) _ (b .loop .sums) _ (b .loop .c) (m .result) _ (omega arith) (m .ensures) (c .before .canonical-combine .ensures) (b .loop .inv)
 
 pub row-total-spec : {M : Type 1} → statement M
 row-total-spec =
