@@ -8,7 +8,7 @@ ghost use Rattle.sums.specs.Says.{chunkSays};
 use crate::tree::tree8;
 use refusals::Answer;
 
-// Eight products at most, one for each lane. It is inlined where there are eight, and there the loop is of that length.
+// Eight products at most, one for each lane. Where it is handed eight it is inlined as a loop of that length, which two vectors hold.
 fn eight_products(l: [f32; 8], x: &[f32], w: &[f32]) -> [f32; 8]
     requires { ⌜ (length (now x) ≤ 8) × (length (now x) ≤ length (now w)) ⌝ }
     ensures { λ r. ⌜ r ≡ lanesFrom l (products (now (x .entry)) (now (w .entry))) (length (now (x .entry))) ⌝ }
