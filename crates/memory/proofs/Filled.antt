@@ -7,7 +7,7 @@ use native.Mathlib.Omega.{arith}
 use mathlib.Core.List.{List, [], _∷_, _++_, append-assoc, append-nil}
 use lib.ListN.{length, getD, take, drop, set, length-append, length-drop, length-set, drop-of-length-le, List·getD-append}
 use mathlib.Core.Logic.{inl, inr}
-use lib.Seq.{getD-at, getD-take, getD-drop, length-take-le, drop-cons, set-at, take-at, drop-at, drop-drop}
+use lib.Seq.{getD-at, getD-append-add, getD-take, getD-drop, length-take-le, drop-cons, set-at, take-at, drop-at, drop-drop, ext-getD}
 use Rattle.memory.specs.Lists.{table, filled, part}
 
 module _ {A : Type 0} where
@@ -44,6 +44,18 @@ module _ {A : Type 0} where
 
   pub length-filled : (f : ℕ → A) (xs : List A) (n : ℕ) → n ≤ length xs → length (filled f xs n) ≡ length xs
   length-filled f xs n h = simp (length-append, length-table, length-drop) (omega arith)
+
+  -- a place behind those that are filled is as it was
+  pub filled-behind : (f : ℕ → A) (xs : List A) (n i : ℕ) (d : A) → n ≤ i → getD (filled f xs n) i d ≡ getD xs i d
+  filled-behind f xs n i d h =
+      let e : i ≡ length (table f n) + (i - n) = rw length-table (omega arith) in
+      let b : n + (i - n) ≡ i = omega arith in
+      ap (λ (j : ℕ). getD (filled f xs n) j d) e ∙ getD-append-add (table f n) (drop n xs) (i - n) d ∙ getD-drop n xs (i - n) d ∙ ap (λ (j : ℕ). getD xs j d) b
+
+  -- a list is the table of its own places
+  pub table-of : (xs : List A) (n : ℕ) (d : A) → length xs ≡ n → table (λ i. getD xs i d) n ≡ xs
+  table-of xs n d e =
+      ext-getD d (table (λ i. getD xs i d) n) xs (length-table _ n ∙ sym e) (λ i h. getD-table (λ j. getD xs j d) n i d (rw length-table at h))
 
   -- the invariant of a loop that fills a list of n places, at place i
   abbrev pub Filling : (ℕ → A) → List A → ℕ → List A → ℕ → Type 0

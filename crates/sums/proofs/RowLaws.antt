@@ -1,0 +1,54 @@
+-- Laws of chunks and rows, over any terms p. Assumes nothing.
+use mathlib.Core.Path.{_≡_, ap, _∙_}
+use mathlib.Core.List.{List}
+use Prim.Native.Nat.{ℕ, _+_, _-_, _*_, _≤_, _<_}
+use native.Mathlib.Nat.{min-le-right}
+use native.Mathlib.Omega.{arith}
+use lib.ListN.{length, take, drop, set}
+use lib.Seq.{take-at}
+use lib.Ieee.{Float}
+use Rattle.refusals.specs.Sizes.{mostIn}
+use Rattle.memory.specs.Lists.{table, filled}
+use Rattle.memory.proofs.Filled.{length-table, table-ext, Filling, filling-start, filling-more}
+use Rattle.sums.specs.Tree.{tree, combined}
+use Rattle.sums.specs.Lanes.{lanes, chunkSum}
+use Rattle.sums.specs.Rows.{chunksIn, chunkLength, chunkAt, rowSum}
+use Rattle.sums.proofs.LaneLaws.{lanes-cong}
+
+-- a chunk sum depends on the terms below n alone
+pub chunk-cong : (p q : ℕ → Float) (n : ℕ) → ((i : ℕ) → i < n → p i ≡ q i) → chunkSum p n ≡ chunkSum q n
+unfolding chunkSum lanes
+chunk-cong p q n h = ap tree (lanes-cong _ p q n h)
+
+-- and so does a row sum
+pub row-cong : (p q : ℕ → Float) (n : ℕ) → ((i : ℕ) → i < n → p i ≡ q i) → rowSum p n ≡ rowSum q n
+unfolding rowSum chunkAt
+row-cong p q n h =
+    ap tree (table-ext _ _ (chunksIn n) (λ c b. chunk-cong _ _ (chunkLength n c) (λ i u. h (8192 * c + i) (omega (arith, min-le-right 8192 (n - 8192 * c))))))
+
+-- A chunk sum by place: the k terms of chunk c, q, are those of the row, p, from the chunk's start on.
+pub chunk-part : (p q : ℕ → Float) (n c k : ℕ) → k ≡ chunkLength n c → ((i : ℕ) → i < k → q i ≡ p (8192 * c + i)) → chunkSum q k ≡ chunkAt p n c
+unfolding chunkAt
+chunk-part p q n c k e h = chunk-cong q (λ i. p (8192 * c + i)) k h ∙ ap (chunkSum (λ i. p (8192 * c + i))) e
+
+-- ---- the sums of a row's chunks in an array of 16, which held old: after c of them it is sums
+
+abbrev pub Chunking : (ℕ → Float) → ℕ → List Float → List Float → ℕ → Type 0
+Chunking p n old sums c = (c ≤ chunksIn n) × Filling (chunkAt p n) old 16 sums c
+
+pub chunking-start : (p : ℕ → Float) (n : ℕ) (old : List Float) → length old ≡ 16 → Chunking p n old old 0
+chunking-start p n old e = (omega arith, filling-start (chunkAt p n) old 16 e)
+
+pub chunking-more : (p : ℕ → Float) (n : ℕ) (old sums : List Float) (c : ℕ) (v : Float) → length old ≡ 16 → n ≤ mostIn → c < chunksIn n → v ≡ chunkAt p n c
+    → Chunking p n old sums c → Chunking p n old (set sums c v) (c + 1)
+chunking-more p n old sums c v e m h q w = (omega arith, filling-more (chunkAt p n) old 16 sums c v e (w .1) (omega arith) q)
+
+-- The row sum as the tree over chunk sums: `canonical_combine`, handed the first k places of sums, one for each chunk, answers it.
+pub chunking-met : (p : ℕ → Float) (n : ℕ) (old sums left : List Float) (c k : ℕ) (r : Float) → c ≡ k → k ≡ chunksIn n → (r, left) ≡ combined (take k sums)
+    → Chunking p n old sums c → r ≡ rowSum p n
+unfolding rowSum
+chunking-met p n old sums left c k r b e g w =
+    ap (λ (q : Float × List Float). q .0) g
+    ∙ ap (λ (l : List Float). tree (take k l)) (w .1 .0 ∙ ap (filled (chunkAt p n) old) b)
+    ∙ ap tree (take-at (table (chunkAt p n) k) (drop k old) k (length-table (chunkAt p n) k))
+    ∙ ap (λ (m : ℕ). tree (table (chunkAt p n) m)) e

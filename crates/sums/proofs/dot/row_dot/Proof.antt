@@ -1,0 +1,125 @@
+-- `dot::row_dot` meets its contract. Assumes nothing.
+use mathlib.Core.Path.{refl, sym, _∙_}
+use Prim.Native.Nat.{_-_, _*_}
+use native.Mathlib.Omega.{arith}
+use lib.Seq.{length-take-le}
+use Rattle.sums.specs.Lanes.{products}
+use Rattle.sums.specs.Rows.{chunksIn}
+use Rattle.sums.proofs.LaneLaws.{products-part}
+use Rattle.sums.proofs.RowLaws.{chunk-part, Chunking, chunking-start, chunking-more, chunking-met}
+use Rattle.sums.proofs.dot.row_dot.Statement.{statement}
+use Rattle.sums.proofs.dot.row_dot.Tie as tie
+
+abbrev Inv-loop : tie.InvT-loop
+Inv-loop x w n chunks sums₀ c₀ sums c = Chunking (products x w) n sums₀ sums c
+
+abbrev μ-loop : tie.MeasureT-loop
+μ-loop x w n chunks sums₀ c₀ sums c = chunksIn n - c
+
+chunks-in-requires : tie.Need-chunks-in-requires Inv-loop μ-loop
+chunks-in-requires c κs = omega arith
+
+loop-holds : tie.Need-loop-holds Inv-loop μ-loop
+loop-holds c = chunking-start _ _ _ refl
+
+mul-s : tie.Need-mul-s Inv-loop μ-loop
+mul-s c = omega arith
+
+chunk-end-requires : tie.Need-chunk-end-requires Inv-loop μ-loop
+chunk-end-requires c κs = omega arith
+
+mul-chunk-dot : tie.Need-mul-chunk-dot Inv-loop μ-loop
+mul-chunk-dot c = omega arith
+
+sub-chunk-dot : tie.Need-sub-chunk-dot Inv-loop μ-loop
+sub-chunk-dot c = omega arith
+
+part-chunk-dot-start : tie.Need-part-chunk-dot-start Inv-loop μ-loop
+part-chunk-dot-start c = omega arith
+
+part-chunk-dot-end : tie.Need-part-chunk-dot-end Inv-loop μ-loop
+part-chunk-dot-end c = omega arith
+
+mul-chunk-dot-2 : tie.Need-mul-chunk-dot-2 Inv-loop μ-loop
+mul-chunk-dot-2 c = omega arith
+
+sub-chunk-dot-2 : tie.Need-sub-chunk-dot-2 Inv-loop μ-loop
+sub-chunk-dot-2 c = omega arith
+
+part-chunk-dot-start-2 : tie.Need-part-chunk-dot-start-2 Inv-loop μ-loop
+part-chunk-dot-start-2 c = omega arith
+
+part-chunk-dot-end-2 : tie.Need-part-chunk-dot-end-2 Inv-loop μ-loop
+part-chunk-dot-end-2 c = omega arith
+
+chunk-dot-requires : tie.Need-chunk-dot-requires Inv-loop μ-loop
+chunk-dot-requires c κs = omega arith
+
+mul-sums : tie.Need-mul-sums Inv-loop μ-loop
+mul-sums c = omega arith
+
+array-write-sums : tie.Need-array-write-sums Inv-loop μ-loop
+array-write-sums c = omega arith
+
+add-c : tie.Need-add-c Inv-loop μ-loop
+add-c c = omega arith
+
+loop-less : tie.Need-loop-less Inv-loop μ-loop
+loop-less c = omega arith
+
+loop-again : tie.Need-loop-again Inv-loop μ-loop
+loop-again c =
+    let t = c .before .before .before in
+    let b = t .before .before in
+    let a = b .before .before .before .before .args in
+    let s = 8192 * b .loop .c in
+    let e = t .chunk-end .result in
+    let v = c .chunk-dot .ensures ∙ chunk-part (products (a .x .now) (a .w .now)) _ (a .n) (b .loop .c) _ (omega arith) (λ i h. products-part (a .x .now) (a .w .now) s (e - s) (e - s) i (omega arith) (omega arith)) in
+    chunking-more (products (a .x .now) (a .w .now)) (a .n) _ (b .loop .sums) (b .loop .c) _ refl (omega arith) (omega arith) v (b .loop .inv)
+
+array-borrow-prefix-sums : tie.Need-array-borrow-prefix-sums Inv-loop μ-loop
+array-borrow-prefix-sums c = omega arith
+
+slice-aggregate-canonical-combine : tie.Need-slice-aggregate-canonical-combine Inv-loop μ-loop
+slice-aggregate-canonical-combine c =
+    let b = c .before .before in
+    sym (length-take-le (b .before .chunks-in .result) (b .loop .sums) (omega arith))
+
+canonical-combine-requires : tie.Need-canonical-combine-requires Inv-loop μ-loop
+canonical-combine-requires c κs = omega arith
+
+returns : tie.Need-returns Inv-loop μ-loop
+returns c =
+    let b = c .before .before .before .before in
+    let a = b .before .before .before .before .args in
+    let m = b .before .chunks-in in
+    chunking-met (products (a .x .now) (a .w .now)) (a .n) _ (b .loop .sums) _ (b .loop .c) (m .result) _ (omega arith) (m .ensures) (c .before .canonical-combine .ensures) (b .loop .inv)
+
+pub row-dot-spec : {M : Type 1} → statement M
+row-dot-spec =
+    tie.close
+    (tie.spec
+    Inv-loop
+    μ-loop
+    chunks-in-requires
+    loop-holds
+    mul-s
+    chunk-end-requires
+    mul-chunk-dot
+    sub-chunk-dot
+    part-chunk-dot-start
+    part-chunk-dot-end
+    mul-chunk-dot-2
+    sub-chunk-dot-2
+    part-chunk-dot-start-2
+    part-chunk-dot-end-2
+    chunk-dot-requires
+    mul-sums
+    array-write-sums
+    add-c
+    loop-less
+    loop-again
+    array-borrow-prefix-sums
+    slice-aggregate-canonical-combine
+    canonical-combine-requires
+    returns)

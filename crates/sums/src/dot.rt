@@ -1,0 +1,52 @@
+// The dot of a row: the dots of its chunks meet in the tree.
+ghost use mathlib.Core.Path.{_≡_};
+ghost use Prim.Native.Nat.{_≤_};
+ghost use lib.ListN.{length};
+ghost use Rattle.refusals.specs.Said.{saidBy};
+ghost use Rattle.refusals.specs.Sizes.{mostIn};
+ghost use Rattle.sums.specs.Lanes.{products};
+ghost use Rattle.sums.specs.Rows.{rowSum};
+ghost use Rattle.sums.specs.Says.{dotSays};
+use crate::chunks::CHUNK;
+use crate::chunks::MOST_CHUNKS;
+use crate::chunks::chunk_end;
+use crate::chunks::chunks_in;
+use crate::lanes::chunk_dot;
+use crate::tree::canonical_combine;
+use refusals::Answer;
+
+// The dot of the first n places.
+fn row_dot(x: &[f32], w: &[f32], n: usize) -> f32
+    requires { ⌜ (n ≤ mostIn) × (n ≤ length (now x)) × (n ≤ length (now w)) ⌝ }
+    ensures { λ r. ⌜ r ≡ rowSum (products (now (x .entry)) (now (w .entry))) n ⌝ }
+{
+    let chunks = chunks_in(n);
+    let mut sums = [0.0f32; MOST_CHUNKS];
+    let mut c: usize = 0;
+    while c < chunks {
+        let s = CHUNK * c;
+        let e = chunk_end(n, c);
+        sums[c] = chunk_dot(&x[s..e], &w[s..e]);
+        c += 1;
+    }
+    canonical_combine(&mut sums[..chunks])
+}
+
+// The dot of the first n readings and weights. Refuses 6, answers n = 0 with +0.0, refuses 3 and 4, in this order.
+pub fn canonical_dot_pub(x: &[f32], w: &[f32], n: usize) -> Answer
+    ensures { λ r. ⌜ saidBy r ≡ dotSays (now (x .entry)) (now (w .entry)) n ⌝ }
+{
+    if n > refusals::MOST_IN {
+        return Answer::Refused(refusals::TOO_LARGE);
+    }
+    if n == 0 {
+        return Answer::Value(0.0);
+    }
+    if w.len() < n {
+        return Answer::Refused(refusals::WEIGHTS_SHORT);
+    }
+    if x.len() < n {
+        return Answer::Refused(refusals::READINGS_SHORT);
+    }
+    Answer::Value(row_dot(x, w, n))
+}
