@@ -5,5 +5,3 @@ pub mod Scales
 pub mod Two
 pub mod Eight
 pub mod Quants
-pub mod Runs
-pub mod Refused

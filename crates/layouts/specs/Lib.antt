@@ -3,4 +3,3 @@ pub mod Formats
 pub mod Of32
 pub mod K
 pub mod Weights
-pub mod Says

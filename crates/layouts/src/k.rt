@@ -1,15 +1,13 @@
-// The K formats: 256 values to a block, each a whole number times the scale of its place, and in Q4_K less a minimum.
+// The whole numbers and the scales of the K formats, 256 values to a block.
 use crate::format::FormatK;
 use crate::of32::less;
-use crate::of32::scale_run;
 ghost use mathlib.Core.Path.{_≡_};
 ghost use Prim.Native.Nat.{_+_, _*_, _/_, _%_, _≤_, _<_};
 ghost use lib.IntN.{pos, _-ℤ_};
 ghost use lib.ListN.{length, getD};
-ghost use lib.Ieee.{nan, binary32, mul, sub, ofInt};
+ghost use lib.Ieee.{binary32, mul, ofInt};
 ghost use Rattle.memory.specs.Lists.{table};
-ghost use Rattle.layouts.specs.Formats.{bytesK};
-ghost use Rattle.layouts.specs.K.{scaleQ4K, minimumQ4K, quantQ4K, quantQ6K, scaleQ6K, dOf, dminOf, valueK};
+ghost use Rattle.layouts.specs.K.{scaleQ4K, minimumQ4K, quantQ4K, quantQ6K, scaleQ6K, dOf, dminOf};
 
 // The scale of Q4_K's sub-block j, six bits.
 pub fn scale_q4k(block: &[u8], j: usize) -> u8
@@ -128,59 +126,4 @@ pub fn scales_q6k(block: &[u8]) -> [f32; 16]
         s[e] = d * numbers::signed_byte(block[192 + e]) as f32;
     }
     s
-}
-
-// A run of 16 whole numbers, each times the scale s, less the minimum m.
-fn scale_run_less(q: &[u8], s: f32, m: f32, out: &mut [f32])
-    requires { ⌜ (length (now q) ≡ 16) × (length (now out) ≡ 16) ⌝ }
-    ensures { λ _. ⌜ now (out .exit) ≡ table (λ l. sub binary32 (mul binary32 s (ofInt binary32 (pos (getD (now (q .entry)) l 0)))) m) 16 ⌝ }
-{
-    for l in 0..16usize {
-        out[l] = s * q[l] as f32 - m;
-    }
-}
-
-// One Q4_K block's 256 values, a run of 16 a turn.
-fn decode_q4k(block: &[u8], out: &mut [f32])
-    requires { ⌜ (length (now block) ≡ 144) × (length (now out) ≡ 256) ⌝ }
-    ensures { λ _. ⌜ now (out .exit) ≡ table (valueK FormatK.Q4K (now (block .entry))) 256 ⌝ }
-{
-    let scales = scales_q4k(block);
-    let minimums = minimums_q4k(block);
-    let q = quants_q4k(block);
-    for e in 0..16usize {
-        let at = 16 * e;
-        let end = at + 16;
-        scale_run_less(
-            &q[at..end],
-            scales[e / 2],
-            minimums[e / 2],
-            &mut out[at..end],
-        );
-    }
-}
-
-// One Q6_K block's 256 values, a run of 16 a turn.
-fn decode_q6k(block: &[u8], out: &mut [f32])
-    requires { ⌜ (length (now block) ≡ 210) × (length (now out) ≡ 256) ⌝ }
-    ensures { λ _. ⌜ now (out .exit) ≡ table (valueK FormatK.Q6K (now (block .entry))) 256 ⌝ }
-{
-    let scales = scales_q6k(block);
-    let q = quants_q6k(block);
-    for e in 0..16usize {
-        let at = 16 * e;
-        let end = at + 16;
-        scale_run(&q[at..end], scales[e], &mut out[at..end]);
-    }
-}
-
-// One block's 256 values.
-pub fn decode_k(format: FormatK, block: &[u8], out: &mut [f32])
-    requires { ⌜ (length (now block) ≡ bytesK format) × (length (now out) ≡ 256) ⌝ }
-    ensures { λ _. ⌜ now (out .exit) ≡ table (valueK format (now (block .entry))) 256 ⌝ }
-{
-    match format {
-        FormatK::Q4K => decode_q4k(block, out),
-        FormatK::Q6K => decode_q6k(block, out),
-    }
 }

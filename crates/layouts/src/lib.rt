@@ -1,17 +1,18 @@
-// What a packed block means: each format's bytes and values, its whole numbers and scales, and the decoders.
-mod blocks;
+// What a packed block means: each format's bytes and values, its whole numbers and its scales.
 mod format;
 mod k;
 mod of32;
 
-pub use blocks::decode_blocks;
-pub use blocks::dequantize_q4_0;
-pub use blocks::dequantize_q4_k;
-pub use blocks::dequantize_q5_0;
-pub use blocks::dequantize_q6_k;
-pub use blocks::dequantize_q8_0;
 pub use format::Format;
 pub use format::Format32;
 pub use format::FormatK;
 pub use format::block_bytes;
 pub use format::block_values;
+pub use k::minimum_q4k;
+pub use k::minimums_q4k;
+pub use k::quants_q4k;
+pub use k::quants_q6k;
+pub use k::scale_q4k;
+pub use k::scales_q4k;
+pub use k::scales_q6k;
+pub use of32::quants_32;

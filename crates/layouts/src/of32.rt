@@ -1,13 +1,12 @@
-// The formats with 32 values to a block: a scale, and 32 whole numbers that it multiplies.
+// The whole numbers of the formats with 32 values to a block.
 use crate::format::Format32;
 ghost use mathlib.Core.Path.{_≡_};
 ghost use Prim.Native.Nat.{_+_, _*_, _/_, _%_, _≤_, _<_};
 ghost use lib.IntN.{pos, _-ℤ_};
 ghost use lib.ListN.{length, getD};
-ghost use lib.Ieee.{binary32, mul, ofInt};
 ghost use Rattle.memory.specs.Lists.{table};
 ghost use Rattle.layouts.specs.Formats.{bytes32};
-ghost use Rattle.layouts.specs.Of32.{quant32, value32};
+ghost use Rattle.layouts.specs.Of32.{quant32};
 
 // n less k.
 pub fn less(n: u8, k: u8) -> i8
@@ -91,7 +90,7 @@ fn quants_q8_0(block: &[u8]) -> [i8; 32]
 }
 
 // A block's 32 whole numbers.
-fn quants_32(format: Format32, block: &[u8]) -> [i8; 32]
+pub fn quants_32(format: Format32, block: &[u8]) -> [i8; 32]
     requires { ⌜ length (now block) ≡ bytes32 format ⌝ }
     ensures { λ r. ⌜ r ≡ table (quant32 format (now (block .entry))) 32 ⌝ }
 {
@@ -99,29 +98,5 @@ fn quants_32(format: Format32, block: &[u8]) -> [i8; 32]
         Format32::Q40 => quants_q4_0(block),
         Format32::Q50 => quants_q5_0(block),
         Format32::Q80 => quants_q8_0(block),
-    }
-}
-
-// A run of 16 whole numbers, each times the scale s.
-pub fn scale_run(q: &[i8], s: f32, out: &mut [f32])
-    requires { ⌜ (length (now q) ≡ 16) × (length (now out) ≡ 16) ⌝ }
-    ensures { λ _. ⌜ now (out .exit) ≡ table (λ l. mul binary32 s (ofInt binary32 (getD (now (q .entry)) l (pos 0)))) 16 ⌝ }
-{
-    for l in 0..16usize {
-        out[l] = s * q[l] as f32;
-    }
-}
-
-// One block's 32 values.
-pub fn decode_32(format: Format32, block: &[u8], out: &mut [f32])
-    requires { ⌜ (length (now block) ≡ bytes32 format) × (length (now out) ≡ 32) ⌝ }
-    ensures { λ _. ⌜ now (out .exit) ≡ table (value32 format (now (block .entry))) 32 ⌝ }
-{
-    let s = numbers::f16_to_f32(numbers::le_u16(block[0], block[1]));
-    let q = quants_32(format, block);
-    for e in 0..2usize {
-        let at = 16 * e;
-        let end = at + 16;
-        scale_run(&q[at..end], s, &mut out[at..end]);
     }
 }

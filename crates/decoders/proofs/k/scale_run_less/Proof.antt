@@ -8,8 +8,8 @@ use lib.Ieee.{Float, binary32, mul, sub, ofInt}
 use Rattle.memory.proofs.Filled.{Filling, filling-start, filling-more, filling-done}
 use native.Mathlib.Omega.{arith}
 use borrow.Author.Needs.{needs}
-use Rattle.layouts.proofs.k.scale_run_less.Statement.{statement}
-use Rattle.layouts.proofs.k.scale_run_less.Tie as tie
+use Rattle.decoders.proofs.k.scale_run_less.Statement.{statement}
+use Rattle.decoders.proofs.k.scale_run_less.Tie as tie
 
 abbrev at : List ℕ → Float → Float → ℕ → Float
 at q s m l = sub binary32 (mul binary32 s (ofInt binary32 (pos (getD q l 0)))) m

@@ -10,8 +10,8 @@ use Rattle.numbers.proofs.Signed.{read-is}
 use Rattle.memory.proofs.Filled.{Filling, filling-start, filling-more, filling-done}
 use native.Mathlib.Omega.{arith}
 use borrow.Author.Needs.{needs}
-use Rattle.layouts.proofs.of32.scale_run.Statement.{statement}
-use Rattle.layouts.proofs.of32.scale_run.Tie as tie
+use Rattle.decoders.proofs.of32.scale_run.Statement.{statement}
+use Rattle.decoders.proofs.of32.scale_run.Tie as tie
 
 abbrev at : List ℤ → Float → ℕ → Float
 at q s l = mul binary32 s (ofInt binary32 (getD q l (pos 0)))

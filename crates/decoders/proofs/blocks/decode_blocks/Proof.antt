@@ -8,11 +8,11 @@ use Rattle.memory.specs.Lists.{table, filled}
 use Rattle.memory.proofs.Filled.{filled-none, part-length, part-turn}
 use native.Mathlib.Omega.{arith}
 use borrow.Author.Needs.{needs}
 use Rattle.layouts.specs.Formats.{blockBytes, blockValues}
 use Rattle.layouts.specs.Weights.{valueIn, weightAt}
 use Rattle.layouts.proofs.Sizes.{sizes, within, within-bytes, placed}
-use Rattle.layouts.proofs.blocks.decode_blocks.Statement.{statement}
-use Rattle.layouts.proofs.blocks.decode_blocks.Tie as tie
+use Rattle.decoders.proofs.blocks.decode_blocks.Statement.{statement}
+use Rattle.decoders.proofs.blocks.decode_blocks.Tie as tie
 
 abbrev Inv-loop : tie.InvT-loop
 Inv-loop format bytes out₀ size values count b₀ out b = (out ≡ filled (weightAt format bytes) out₀ (b * values)) × (b ≤ count) × (length out ≡ length out₀)

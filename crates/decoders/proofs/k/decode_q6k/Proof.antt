@@ -9,11 +9,11 @@ use Rattle.memory.specs.Lists.{filled}
 use Rattle.memory.proofs.Filled.{filled-none, filled-all, part-length, part-turn}
 use native.Mathlib.Omega.{arith}
 use borrow.Author.Needs.{needs}
 use Rattle.layouts.specs.K.{quantQ6K, valueK}
 use Rattle.layouts.specs.declared.format.FormatK.the-variants.{Q6K}
-use Rattle.layouts.proofs.Runs.{in-table, q6k-run}
-use Rattle.layouts.proofs.k.decode_q6k.Statement.{statement}
-use Rattle.layouts.proofs.k.decode_q6k.Tie as tie
+use Rattle.decoders.proofs.Runs.{in-table, q6k-run}
+use Rattle.decoders.proofs.k.decode_q6k.Statement.{statement}
+use Rattle.decoders.proofs.k.decode_q6k.Tie as tie
 
 abbrev Inv-loop : tie.InvT-loop
 Inv-loop block out₀ scales q e₀ out e = (out ≡ filled (valueK Q6K block) out₀ (16 * e)) × (e ≤ 16) × (length out ≡ 256)

@@ -5,10 +5,10 @@ use borrow.Author.Tests.{lt-ltb, le-ltb, eq-eqb, ne-eqb}
 use Rattle.refusals.proofs.Laws.{given-yes, given-no}
 use native.Mathlib.Omega.{arith}
 use borrow.Author.Needs.{needs}
-use Rattle.layouts.specs.Says.{dequantizeNo}
+use Rattle.decoders.specs.Says.{dequantizeNo}
 use Rattle.layouts.proofs.Sizes.{sizes, few-values}
-use Rattle.layouts.proofs.blocks.dequantize_no.Statement.{statement}
-use Rattle.layouts.proofs.blocks.dequantize_no.Tie as tie
+use Rattle.decoders.proofs.blocks.dequantize_no.Statement.{statement}
+use Rattle.decoders.proofs.blocks.dequantize_no.Tie as tie
 
 block-bytes-requires : tie.Need-block-bytes-requires
 block-bytes-requires c κs = search needs

@@ -2,11 +2,11 @@
 use mathlib.Core.Path.{_≡_, refl, sym, ap, _∙_}
 use Rattle.memory.specs.Lists.{table}
 use borrow.Author.Needs.{needs}
 use Rattle.layouts.specs.Formats.{blockBytes, blockValues}
 use Rattle.layouts.specs.Weights.{valueIn}
 use Rattle.layouts.specs.declared.format.Format.{Format}
-use Rattle.layouts.proofs.blocks.decode_block.Statement.{statement}
-use Rattle.layouts.proofs.blocks.decode_block.Tie as tie
+use Rattle.decoders.proofs.blocks.decode_block.Statement.{statement}
+use Rattle.decoders.proofs.blocks.decode_block.Tie as tie
 
 enum-known-format : tie.Need-enum-known-format
 enum-known-format c = search needs

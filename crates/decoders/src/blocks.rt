@@ -1,20 +1,20 @@
 // The block decoders: every block's values, each block's in its own places in the middle of the output.
-use crate::format::Format;
-use crate::format::Format32;
-use crate::format::FormatK;
-use crate::format::block_bytes;
-use crate::format::block_values;
 use crate::k::decode_k;
 use crate::of32::decode_32;
+use layouts::Format;
+use layouts::Format32;
+use layouts::FormatK;
+use layouts::block_bytes;
+use layouts::block_values;
 use refusals::Outcome;
 ghost use mathlib.Core.Path.{_≡_};
 ghost use Prim.Native.Nat.{_≤_, _<_};
 ghost use lib.ListN.{length};
 ghost use Rattle.refusals.specs.Said.{outcomeSays};
 ghost use Rattle.memory.specs.Lists.{table, filled};
 ghost use Rattle.layouts.specs.Formats.{blockBytes, blockValues};
 ghost use Rattle.layouts.specs.Weights.{valueIn, weightAt, valuesOf};
-ghost use Rattle.layouts.specs.Says.{dequantizeNo, dequantizeSays};
+ghost use Rattle.decoders.specs.Says.{dequantizeNo, dequantizeSays};
 
 // One block's values.
 fn decode_block(format: Format, block: &[u8], out: &mut [f32])

@@ -7,10 +7,10 @@ use lib.Ieee.{Float}
 use Rattle.refusals.specs.Said.{Said, done}
 use Rattle.refusals.proofs.Laws.{carried-done, carried-refused}
 use borrow.Author.Needs.{needs}
-use Rattle.layouts.specs.Says.{dequantizeNo, dequantizeSays}
-use Rattle.layouts.proofs.Refused.{room-for-values}
-use Rattle.layouts.proofs.blocks.dequantize.Statement.{statement}
-use Rattle.layouts.proofs.blocks.dequantize.Tie as tie
+use Rattle.decoders.specs.Says.{dequantizeNo, dequantizeSays}
+use Rattle.decoders.proofs.Refused.{room-for-values}
+use Rattle.decoders.proofs.blocks.dequantize.Statement.{statement}
+use Rattle.decoders.proofs.blocks.dequantize.Tie as tie
 
 dequantize-no-requires : tie.Need-dequantize-no-requires
 dequantize-no-requires c κs = search needs

@@ -12,11 +12,11 @@ use Rattle.memory.specs.Lists.{filled}
 use Rattle.memory.proofs.Filled.{filled-none, filled-all, part-length, part-turn, part-at, getD-table, table-ext}
 use native.Mathlib.Omega.{arith}
 use borrow.Author.Needs.{needs}
 use Rattle.layouts.specs.Of32.{quant32, value32}
 use Rattle.layouts.proofs.Sizes.{least-32}
-use Rattle.layouts.proofs.Runs.{in-table}
-use Rattle.layouts.proofs.of32.decode_32.Statement.{statement}
-use Rattle.layouts.proofs.of32.decode_32.Tie as tie
+use Rattle.decoders.proofs.Runs.{in-table}
+use Rattle.decoders.proofs.of32.decode_32.Statement.{statement}
+use Rattle.decoders.proofs.of32.decode_32.Tie as tie
 
 -- the value at place i by the scale and the whole numbers
 abbrev at : Float → List ℤ → ℕ → Float

@@ -2,11 +2,11 @@
 use mathlib.Core.Path.{_≡_, refl, sym, ap, _∙_}
 use Rattle.memory.specs.Lists.{table}
 use borrow.Author.Needs.{needs}
 use Rattle.layouts.specs.Formats.{bytesK}
 use Rattle.layouts.specs.K.{valueK}
 use Rattle.layouts.specs.declared.format.FormatK.{FormatK}
-use Rattle.layouts.proofs.k.decode_k.Statement.{statement}
-use Rattle.layouts.proofs.k.decode_k.Tie as tie
+use Rattle.decoders.proofs.k.decode_k.Statement.{statement}
+use Rattle.decoders.proofs.k.decode_k.Tie as tie
 
 enum-told : tie.Need-enum-told
 enum-told c = search needs

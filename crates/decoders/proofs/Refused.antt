@@ -4,9 +4,9 @@ use Prim.Native.Nat.{ℕ, _≤_}
 use borrow.Author.Tests.{ltb-false}
 use lib.Dec.{lit<}
 use Rattle.refusals.proofs.Laws.{given-none}
 use Rattle.layouts.specs.Weights.{valuesOf}
-use Rattle.layouts.specs.Says.{dequantizeNo}
+use Rattle.decoders.specs.Says.{dequantizeNo}
 use Rattle.layouts.specs.declared.format.Format.{Format}
 
 pub room-for-values : (f : Format) (n room : ℕ) → dequantizeNo f n room ≡ 0 → valuesOf f n ≤ room
 unfolding dequantizeNo

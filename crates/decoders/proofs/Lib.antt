@@ -1,0 +1,3 @@
+-- What several proofs of `decoders` share.
+pub mod Runs
+pub mod Refused

@@ -1,0 +1,2 @@
+-- What the block decoders say.
+pub mod Says
