@@ -5,3 +5,4 @@ pub mod Scales
 pub mod Two
 pub mod Eight
 pub mod Quants
+pub mod Rows
