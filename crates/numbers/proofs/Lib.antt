@@ -9,3 +9,7 @@ pub mod Shifted
 pub mod Cases
 pub mod Signed
 pub mod Truncation
+pub mod Values
+pub mod SmallWhole
+pub mod Held
+pub mod BothSides
