@@ -13,3 +13,6 @@ pub mod Values
 pub mod SmallWhole
 pub mod Held
 pub mod BothSides
+pub mod Peaks
+pub mod Largest
+pub mod EightLanes

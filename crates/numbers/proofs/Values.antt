@@ -16,7 +16,7 @@ use lib.Ieee.Scale.{round-same}
 -- ---- numbers
 
 -- two pairs in the same order compare alike
-alike : (p q u v : ℕ) → (v ≤ u → q ≤ p) → (q ≤ p → v ≤ u) → ltb p q ≡ ltb u v
+pub alike : (p q u v : ℕ) → (v ≤ u → q ≤ p) → (q ≤ p → v ≤ u) → ltb p q ≡ ltb u v
 alike p q u v to back = by (ltb u v) refl
   where
     by : (t : Bool) → ltb u v ≡ t → ltb p q ≡ t
