@@ -1,60 +1,20 @@
 -- The Q8 rule is the same on both sides of zero: below it, it is the rule of the magnitude with the sign turned. Assumes nothing.
 use mathlib.Core.Path.{_≡_, refl, sym, ap, _∙_}
-use mathlib.Core.Bool.{Bool, true, false, not, cond, false≢true, true≢false}
+use mathlib.Core.Bool.{Bool, true, false, cond, false≢true, true≢false}
 use Prim.Native.Nat.{ℕ, zero, suc, _+_, _-_, _*_, _/_, _^_, _<_, min}
-use native.Mathlib.Nat.{zero-mul, min-eq-left, min-eq-right, le-of-lt}
+use native.Mathlib.Nat.{zero-mul}
 use native.Mathlib.Omega.{arith}
 use borrow.Author.Tests.{lt-ltb, ne-eqb, ltb-true, ltb-false}
 use lib.Dec.{T, ltb, lit<}
 use lib.IntN.{ℤ, pos, negsuc, negℤ}
-use lib.Ieee.{Float, nan, inf, fin, Format, binary32, prec, low, up, down, odd, units, round, neg, sum, add, lt, eq, le, ofBits, toSigned}
+use lib.Ieee.{Float, nan, inf, fin, binary32, up, down, round, neg, sum, add, lt, eq, le, ofBits, toSigned}
 use lib.Ieee.Bits.{is-true}
-use lib.Ieee.Fits.{down-pos, round-is}
+use lib.Ieee.Fits.{down-pos}
 use lib.Ieee.Order.{le-of-values}
-use lib.Ieee.Scale.{overflow}
 use Rattle.numbers.specs.Steps.{nought, truncated}
 use Rattle.numbers.specs.Readings.{held, quantQ8}
-use Rattle.numbers.proofs.Held.{held-pos}
-
--- ---- signs
-
--- no NaN, and the sign is plus
-abbrev plus : Float → Bool
-plus nan = false
-plus (inf s) = not s
-plus (fin s m e) = not s
-
-plus-cond : (t : Bool) (x y : Float) → T (plus x) → T (plus y) → T (plus (cond t x y))
-plus-cond true x y h k = h
-plus-cond false x y h k = k
-
-plus-odd : (d q k l : ℕ) → T (plus (odd d false q k l))
-unfolding odd
-plus-odd d zero k l = tt
-plus-odd d (suc q) k l = tt
-
-plus-units : (f : Format) (q k : ℕ) → T (plus (units f false q k))
-unfolding units
-plus-units f q k = plus-cond (ltb (q * 2 ^ k) (overflow f)) (odd (suc (prec f)) false q k (low f)) (inf false) (plus-odd (suc (prec f)) q k (low f)) tt
-
-plus-round : (f : Format) (a c : ℕ) → T (plus (round f false a c))
-plus-round f a c = rw (round-is f false a c) (plus-units f _ _)
-
-neg-cond : (t : Bool) (x y : Float) → cond t (neg x) (neg y) ≡ neg (cond t x y)
-neg-cond true x y = refl
-neg-cond false x y = refl
-
-neg-odd : (d q k l : ℕ) → odd d true q k l ≡ neg (odd d false q k l)
-unfolding odd neg
-neg-odd d zero k l = refl
-neg-odd d (suc q) k l = refl
-
-neg-units : (f : Format) (q k : ℕ) → units f true q k ≡ neg (units f false q k)
-unfolding units neg
-neg-units f q k = rw (neg-odd (suc (prec f)) q k (low f)) (neg-cond (ltb (q * 2 ^ k) (overflow f)) (odd (suc (prec f)) false q k (low f)) (inf false))
-
-neg-round : (f : Format) (a c : ℕ) → round f true a c ≡ neg (round f false a c)
-neg-round f a c = rw (round-is f true a c, round-is f false a c) (neg-units f _ _)
+use Rattle.numbers.proofs.Held.{capped, held-pos}
+use Rattle.numbers.proofs.Signs.{plus, plus-round, neg-round}
 
 -- ---- a float and its negation as whole numbers, the same but for the ends of the range
 
@@ -73,16 +33,9 @@ mirrored (fin false m e) h = record { part = m * up e / down e; straight = refl;
 
 -- ---- what is held within -127 and 127
 
-hold-pos : (k : ℕ) → held (negsuc 126) (pos 127) (pos k) ≡ pos (min k 127)
-hold-pos k = by (ltb 127 k) refl
-  where
-    by : (t : Bool) → ltb 127 k ≡ t → cond t (pos 127) (pos k) ≡ pos (min k 127)
-    by true e = ap pos (sym (min-eq-right (le-of-lt (ltb-true 127 k e))))
-    by false e = ap pos (sym (min-eq-left (ltb-false 127 k e)))
-
-hold-neg : (k : ℕ) → held (negsuc 126) (pos 127) (negℤ (pos k)) ≡ negℤ (pos (min k 127))
-hold-neg zero = refl
-hold-neg (suc k) = by (ltb 126 k) refl
+negated : (k : ℕ) → held (negsuc 126) (pos 127) (negℤ (pos k)) ≡ negℤ (pos (min k 127))
+negated zero = refl
+negated (suc k) = by (ltb 126 k) refl
   where
     by : (t : Bool) → ltb 126 k ≡ t → cond t (negsuc 126) (negsuc k) ≡ negℤ (pos (min (suc k) 127))
     by true e = let h : min (suc k) 127 ≡ 127 = omega (arith, ltb-true 126 k e) in rw h
@@ -90,14 +43,14 @@ hold-neg (suc k) = by (ltb 126 k) refl
 
 -- what is held of a float whose sign is plus, and of its negation
 straight : (x : Float) → T (plus x) → held (negsuc 126) (pos 127) (truncated x) ≡ held (pos 0) (pos 127) (truncated x)
-straight x h = let m = mirrored x h in rw (m .straight) (hold-pos (min (m .part) (2 ^ 31 - 1)) ∙ sym (held-pos 127 (min (m .part) (2 ^ 31 - 1))))
+straight x h = let m = mirrored x h in rw (m .straight) (capped 127 (min (m .part) (2 ^ 31 - 1)) ∙ sym (held-pos 127 (min (m .part) (2 ^ 31 - 1))))
 
 turned : (x : Float) → T (plus x) → held (negsuc 126) (pos 127) (truncated (neg x)) ≡ negℤ (held (pos 0) (pos 127) (truncated x))
 turned x h =
     let m = mirrored x h in
     let same : min (min (m .part) (2 ^ 31)) 127 ≡ min (min (m .part) (2 ^ 31 - 1)) 127 = omega arith in
     rw (m .straight, m .turned)
-    (hold-neg (min (m .part) (2 ^ 31)) ∙ ap (λ (n : ℕ). negℤ (pos n)) same ∙ sym (ap negℤ (held-pos 127 (min (m .part) (2 ^ 31 - 1)))))
+    (negated (min (m .part) (2 ^ 31)) ∙ ap (λ (n : ℕ). negℤ (pos n)) same ∙ sym (ap negℤ (held-pos 127 (min (m .part) (2 ^ 31 - 1)))))
 
 -- ---- the rule, by where p lies
 

@@ -16,14 +16,18 @@ use Rattle.numbers.proofs.Values.{Fraction, finite, power, lt-is, cut-i
 
 -- ---- whole numbers
 
-pub held-pos : (n k : ℕ) → held (pos 0) (pos n) (pos k) ≡ pos (min k n)
-held-pos n k = rw (le-ltb k 0 zero-le) (by (ltb n k) refl)
+-- held at the upper end alone
+pub capped : (n k : ℕ) → cond (ltb n k) (pos n) (pos k) ≡ pos (min k n)
+capped n k = by (ltb n k) refl
   where
     by : (t : Bool) → ltb n k ≡ t → cond t (pos n) (pos k) ≡ pos (min k n)
     by true e = ap pos (sym (min-eq-right (le-of-lt (ltb-true n k e))))
     by false e = ap pos (sym (min-eq-left (ltb-false n k e)))
 
-pub held-neg : (n k : ℕ) → held (pos 0) (pos n) (negℤ (pos k)) ≡ pos 0
+pub held-pos : (n k : ℕ) → held (pos 0) (pos n) (pos k) ≡ pos (min k n)
+held-pos n k = rw (le-ltb k 0 zero-le) (capped n k)
+
+held-neg : (n k : ℕ) → held (pos 0) (pos n) (negℤ (pos k)) ≡ pos 0
 held-neg n zero = held-pos n 0 ∙ ap pos (min-eq-left zero-le)
 held-neg n (suc k) = refl
 
@@ -110,6 +114,7 @@ module _ (n : ℕ) (some : 0 < n) (few : n < 256) (b : Float) (B : Fraction b n 
       by false h = rw over-zero (at-zero t h)
 
 -- ---- what is held is one of 0 to n
+
 pub record UpTo (n : ℕ) (z : ℤ) : Type 0 where
   pub number : ℕ
   pub is : z ≡ pos number

@@ -25,15 +25,16 @@ unitsOf nan = 0
 unitsOf (inf s) = 2 ^ 277
 unitsOf (fin s m e) = m * up e * 2 ^ 149 / down e
 
--- of each reading
+-- .. and how many that of reading i is
 abbrev pub unitsAt : List Float → ℕ → ℕ
 unitsAt xs i = unitsOf (getD xs i nan)
 
--- x is not negative and is k units
+-- x is not negative and is k units, ..
 pub data Size : Float → ℕ → Type 0 where
   infinite : Size (inf false) (2 ^ 277)
   finite : {x : Float} {k : ℕ} → Fraction x k (2 ^ 149) → k < 2 ^ 277 → Size x k
 
+-- .. and is a float of the format
 pub record Measured (x : Float) (k : ℕ) : Type 0 where
   pub held : T (fits binary32 x)
   pub size : Size x k
@@ -66,17 +67,18 @@ in-format s (suc m) e t =
     let c = ltb (suc m * up e) (2 ^ 128 * down e) in
     (leb→le (down e) (2 ^ 149) (and-r a b (and-l (a && b) c t)), ltb→lt (suc m * up e) (2 ^ 128 * down e) (and-r (a && b) c t))
 
+few-units : (m : ℕ) (e : ℤ) → m * up e < 2 ^ 128 * down e → m * up e * 2 ^ 149 / down e < 2 ^ 277
+few-units m e h = div-lt-iff-lt-mul (down-pos e) .1 (lt-of-lt-of-le (mul-lt-mul-of-pos-right h (pow-pos 149)) (le-of-eq (mul-right-comm (2 ^ 128) (down e) (2 ^ 149))))
+
 measured : (m : ℕ) (e : ℤ) → T (fits binary32 (fin false m e)) → Measured (fin false m e) (m * up e * 2 ^ 149 / down e)
 measured m e t =
     let f = in-format false m e t in
     let r = 2 ^ 149 / down e in
     let whole : m * up e * 2 ^ 149 ≡ m * up e * r * down e = ap (λ (n : ℕ). m * up e * n) (divides e (f .0)) ∙ sym (mul-assoc (m * up e) r (down e)) in
     let units : m * up e * 2 ^ 149 / down e ≡ m * up e * r = ap (λ (n : ℕ). n / down e) whole ∙ mul-div-cancel (m * up e * r) (down-pos e) in
-    let below : m * up e * 2 ^ 149 / down e < 2 ^ 277 =
-    div-lt-iff-lt-mul (down-pos e) .1 (lt-of-lt-of-le (mul-lt-mul-of-pos-right (f .1) (pow-pos 149)) (le-of-eq (mul-right-comm (2 ^ 128) (down e) (2 ^ 149)))) in
     record {
       held = t;
-      size = finite (record { some = pow-pos 149; digits = m; place = e; shape = refl; same = whole ∙ ap (λ (n : ℕ). n * down e) (sym units) }) below;
+      size = finite (record { some = pow-pos 149; digits = m; place = e; shape = refl; same = whole ∙ ap (λ (n : ℕ). n * down e) (sym units) }) (few-units m e (f .1));
     }
 
 -- ---- the order is the order of the numbers, and the number says which float it is
@@ -135,7 +137,7 @@ nothing m e h = omega (arith, ltb-false 0 (m * up e * 1 + 0 * down e) h)
 no-units : (m : ℕ) (e : ℤ) → m * up e ≡ 0 → m * up e * 2 ^ 149 / down e ≡ 0
 no-units m e h = rw h (zero-div (down e))
 
--- a reading is taken or passed over
+-- the larger of a and a reading's magnitude: the reading is taken or passed over
 pub taken : (v : Float) → T (fits binary32 v) → {a : Float} {k : ℕ} → Measured a k → Measured (cond (lt a (magnitude v)) (magnitude v) a) (max k (unitsOf v))
 unfolding lt neg ofBits
 taken nan t {a} {k} p = rw (under-nan a, max-zero k) p
@@ -148,6 +150,7 @@ taken (fin true m e) t {a} {k} p = by (lt (fin true m e) nought) refl
     by false h = rw (under-minus m e (p .size), no-units m e (nothing m e h), max-zero k) p
 taken (fin false m e) t p = rw (le-ltb (m * up e * 1) (0 * down e) (rw zero-mul zero-le)) (larger p (measured m e t))
 
+-- +0.0 is no units
 pub none : Measured nought 0
 unfolding ofBits fits
 none = measured 0 (pos 0) tt

@@ -12,6 +12,7 @@ pub mod Truncation
 pub mod Values
 pub mod SmallWhole
 pub mod Held
+pub mod Signs
 pub mod BothSides
 pub mod Peaks
 pub mod Largest

@@ -94,10 +94,13 @@ small (fin false m e) (inr g) h = record {
   below = rw mul-one at (ltb-true (m * up e * 1) (256 * down e) h);
 }
 
--- c and the whole number next to it
+-- ---- the whole part of c
+
+-- 2 ^ 23
 abbrev big : Float
 big = fin false 1 (pos 23)
 
+-- the whole number next to c that adding 2 ^ 23 and taking it off again leaves, ..
 abbrev near : Float → Float
 near c = sub binary32 (add binary32 c big) big
 
@@ -142,18 +145,16 @@ module _ (c : Float) (n d : ℕ) (p : Fraction c n d) (b : n < 256 * d) where
           let same : sum - 8388608 ≡ n / d = omega (arith, next) in
           rw same at near-is
 
--- the whole part of c, ..
+-- the whole part of c is below 256, ..
+pub small-under : {c : Float} (s : Small c) → s .num / s .den < 256
+small-under {c} s = whole-small c (s .num) (s .den) (s .fraction) (s .below)
+
+-- .. so that nothing holds it, ..
 pub small-is : {c : Float} (s : Small c) → truncated c ≡ pos (s .num / s .den)
-small-is {c} s =
-    let l = whole-small c (s .num) (s .den) (s .fraction) (s .below) in
-    cut-is 31 (s .fraction) ∙ ap pos (min-eq-left (under l))
+small-is s = cut-is 31 (s .fraction) ∙ ap pos (min-eq-left (under (small-under s)))
   where
     under : {k : ℕ} → k < 256 → k ≤ 2 ^ 31 - 1
     under h = omega arith
-
--- .. is below 256, ..
-pub small-under : {c : Float} (s : Small c) → s .num / s .den < 256
-small-under {c} s = whole-small c (s .num) (s .den) (s .fraction) (s .below)
 
 -- .. and as a float it is what the additions and the comparison make of c
 pub small-whole : {c : Float} (s : Small c) → wholeOf c ≡ ofInt binary32 (pos (s .num / s .den))

@@ -55,7 +55,8 @@ pub fn round_q8(p: f32) -> i8
     ensures { λ r. ⌜ r ≡ quantQ8 p ⌝ }
 {
     let q = held_whole(magnitude_of(p) + 0.5, 127);
-    if p < 0.0 { (0 - q) as i8 } else { q as i8 }
+    let signed = if p < 0.0 { 0 - q } else { q };
+    signed as i8
 }
 
 // The Q4_0 quant of p, a reading times the inverse.
