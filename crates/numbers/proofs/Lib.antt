@@ -9,3 +9,11 @@ pub mod Shifted
 pub mod Cases
 pub mod Signed
 pub mod Truncation
+pub mod Values
+pub mod SmallWhole
+pub mod Held
+pub mod Signs
+pub mod BothSides
+pub mod Peaks
+pub mod Largest
+pub mod EightLanes
