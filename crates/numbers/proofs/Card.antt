@@ -1,10 +1,11 @@
--- Document 01's bench card, rows 1 to 6 and 10. Assumes nothing.
+-- Document 01's bench card, rows 1 to 6, 10 and 12. Assumes nothing.
 use mathlib.Core.Path.{_≡_, refl}
 use mathlib.Core.List.{List, [], _∷_, map}
 use Prim.Native.Nat.{ℕ}
 use lib.IntN.{pos}
-use lib.Ieee.{Float, binary32, round, ofInt, toBits}
+use lib.Ieee.{Float, binary32, round, ofInt, ofBits, toBits, toSigned, add, le}
 use Rattle.numbers.specs.Binary16.{widened, narrowed}
+use Rattle.numbers.specs.Readings.{quantQ8}
 
 -- a float by its bits, as the card writes it
 pub bits : Float → ℕ
@@ -25,3 +26,8 @@ narrowing = refl
 pub nearest : bits (ofInt binary32 (pos 16777219)) ≡ 0x4B800002
 unfolding bits toBits ofInt round
 nearest = refl
+
+-- row 12: a scaled reading of 3EFFFFFF, just under 0.5, gives quant 1
+pub just-under : quantQ8 (ofBits binary32 0x3EFFFFFF) ≡ pos 1
+unfolding quantQ8 add le ofBits toSigned
+just-under = refl
