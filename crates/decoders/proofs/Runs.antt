@@ -1,5 +1,5 @@
 -- A K block's values in run e of 16: what a turn of its decoder puts there is what the layout says. Assumes nothing.
-use mathlib.Core.Path.{_≡_, refl, sym, ap, _∙_, subst}
+use mathlib.Core.Path.{_≡_, sym, ap, _∙_}
 use Prim.Native.Nat.{ℕ, _+_, _*_, _/_, _≤_, _<_}
 use native.Mathlib.Nat.{add-zero}
 use native.Mathlib.Omega.{arith}
@@ -7,7 +7,7 @@ use mathlib.Core.List.{List}
 use lib.IntN.{ℤ, pos}
 use lib.ListN.{length, getD, take, drop}
 use lib.Ieee.{Float, nan, binary32, mul, sub, ofInt}
-use Rattle.memory.specs.Lists.{table, part}
+use Rattle.memory.specs.Lists.{table}
 use Rattle.memory.proofs.Filled.{getD-table, length-table, table-part}
 use Rattle.layouts.specs.K.{scaleQ4K, minimumQ4K, quantQ4K, quantQ6K, scaleQ6K, dOf, dminOf, valueK}
 use Rattle.layouts.specs.declared.format.FormatK.the-variants.{Q4K, Q6K}

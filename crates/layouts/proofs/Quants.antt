@@ -1,7 +1,6 @@
 -- The layouts' whole numbers at the places that a turn fills, by the bytes that it reads. Assumes nothing.
-use mathlib.Core.Path.{_≡_, refl, ap, _∙_}
-use mathlib.Core.Logic.{_⊎_, inl, inr}
-use Prim.Native.Nat.{ℕ, zero, suc, _+_, _*_, _/_, _%_, _^_, _<_}
+use mathlib.Core.Path.{_≡_, ap, _∙_}
+use Prim.Native.Nat.{ℕ, _+_, _*_, _/_, _%_, _^_, _<_}
 use native.Mathlib.Omega.{arith}
 use mathlib.Core.List.{List}
 use lib.Arith.{digits-div}
@@ -9,7 +8,7 @@ use lib.IntN.{pos, _-ℤ_}
 use lib.ListN.{getD}
 use Rattle.numbers.specs.Fields.{le32}
 use Rattle.layouts.specs.Of32.{nibble, quant32}
-use Rattle.layouts.specs.K.{quantQ4K, quantQ6K, sixBits}
+use Rattle.layouts.specs.K.{quantQ4K, quantQ6K}
 use Rattle.layouts.specs.declared.format.Format32.the-variants.{Q40, Q50}
 
 -- ---- Q4_0: byte k has the neighbours 2 k and 2 k + 1

@@ -7,11 +7,10 @@ use mathlib.Core.List.{List}
 use lib.Arith.{digits-div, digits-mod}
 use lib.Dec.{lit≤, lit<}
 use lib.ListN.{take, drop}
-use Rattle.layouts.specs.Formats.{bytes32, bytesK, blockBytes, blockValues}
+use Rattle.layouts.specs.Formats.{bytes32, blockBytes, blockValues}
 use Rattle.layouts.specs.Weights.{valueIn, weightAt}
 use Rattle.layouts.specs.declared.format.Format32.{Format32}
 use Rattle.layouts.specs.declared.format.Format32.the-variants.{Q40, Q50, Q80}
-use Rattle.layouts.specs.declared.format.FormatK.{FormatK}
 use Rattle.layouts.specs.declared.format.FormatK.the-variants.{Q4K, Q6K}
 use Rattle.layouts.specs.declared.format.Format.{Format}
 use Rattle.layouts.specs.declared.format.Format.the-variants.{Of32, OfK}

@@ -1,6 +1,6 @@
 -- Document 01's bench card, rows 1 to 6, 10 and 12. Assumes nothing.
 use mathlib.Core.Path.{_≡_, refl}
-use mathlib.Core.List.{List, [], _∷_, map}
+use mathlib.Core.List.{[], _∷_, map}
 use Prim.Native.Nat.{ℕ}
 use lib.IntN.{pos}
 use lib.Ieee.{Float, binary32, round, ofInt, ofBits, toBits, toSigned, add, le}

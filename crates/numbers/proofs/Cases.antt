@@ -1,15 +1,15 @@
 -- `widened` in each of its cases, as the code has them. Assumes nothing.
-use mathlib.Core.Path.{_≡_, refl, sym, ap, _∙_, subst}
-use Prim.Native.Nat.{ℕ, zero, suc, _+_, _-_, _*_, _/_, _%_, _^_, _≤_, _<_}
+use mathlib.Core.Path.{_≡_, refl, sym, ap, _∙_}
+use Prim.Native.Nat.{ℕ, zero, suc, _+_, _-_, _*_, _/_, _^_, _<_}
 use native.Mathlib.Nat.{add-comm, mul-assoc}
 use native.Mathlib.Omega.{arith}
-use mathlib.Core.Bool.{Bool, true, false, cond}
+use mathlib.Core.Bool.{Bool}
 use borrow.Author.Tests.{lt-leb, le-leb, eq-eqb, ne-eqb}
-use lib.Dec.{leb, eqb}
+use lib.Dec.{eqb}
 use lib.Pow.{pow-pos, pow-add}
-use lib.Ieee.{Float, nan, inf, binary32, round, ofBits, div}
+use lib.Ieee.{nan, inf, binary32, round, ofBits, div}
 use lib.Ieee.Scale.{round-same}
-use Rattle.numbers.specs.Binary16.{negative, exponent, digits, multiple, multipleOf, widened}
+use Rattle.numbers.specs.Binary16.{negative, exponent, digits, multiple, widened}
 
 pub sign-bit : (h : ℕ) → h < 65536 → eqb (h / 32768) 1 ≡ negative h
 sign-bit h b = go (h / 32768) refl

@@ -3,7 +3,7 @@ use mathlib.Core.Path.{_≡_, refl, sym, ap, _∙_, subst}
 use mathlib.Core.Bool.{Bool, true, false, _&&_, cond}
 use mathlib.Core.List.{List}
 use Prim.Native.Nat.{ℕ, zero, suc, _+_, _-_, _*_, _/_, _%_, _^_, _≤_, _<_, zero-le, suc-le-suc, max}
-use native.Mathlib.Nat.{lt-irrefl, lt-of-not-le, not-le-of-lt, le-trans, lt-of-lt-of-le, le-of-eq, le-refl, le-suc, zero-mul, zero-div, mul-assoc, mul-right-comm, mul-pos, one-mul, mul-le-mul-right, le-of-mul-le-mul-right, mul-lt-mul-of-pos-right, mul-div-cancel, div-lt-iff-lt-mul, max-zero, max-eq-left, max-eq-right, le-of-lt}
+use native.Mathlib.Nat.{lt-irrefl, lt-of-le-of-lt, lt-of-not-le, not-le-of-lt, le-trans, lt-of-lt-of-le, le-of-eq, le-refl, le-suc, zero-mul, zero-div, mul-assoc, mul-right-comm, mul-pos, one-mul, mul-le-mul-right, le-of-mul-le-mul-right, mul-lt-mul-of-pos-right, mul-div-cancel, div-lt-iff-lt-mul, max-eq-left, max-eq-right, le-of-lt}
 use native.Mathlib.Omega.{arith}
 use borrow.Author.Tests.{lt-ltb, le-ltb, ltb-true, ltb-false}
 use lib.Dec.{T, ltb, leb, eqb, eqb→eq, ltb→lt, leb→le, lit<, lit≤}
@@ -83,7 +83,7 @@ measured m e t =
 
 -- ---- the order is the order of the numbers, and the number says which float it is
 
-lt-size : {x y : Float} {k l : ℕ} → Size x k → Size y l → lt x y ≡ ltb k l
+pub lt-size : {x y : Float} {k l : ℕ} → Size x k → Size y l → lt x y ≡ ltb k l
 unfolding lt
 lt-size infinite infinite = refl
 lt-size {x} {y} {k} {l} infinite (finite q b) = rw (q .shape) (sym (le-ltb (2 ^ 277) l (le-of-lt b)))
@@ -137,18 +137,41 @@ nothing m e h = omega (arith, ltb-false 0 (m * up e * 1 + 0 * down e) h)
 no-units : (m : ℕ) (e : ℤ) → m * up e ≡ 0 → m * up e * 2 ^ 149 / down e ≡ 0
 no-units m e h = rw h (zero-div (down e))
 
+-- what is not negative is below a reading's magnitude where it has fewer units
+pub under-magnitude : (v : Float) → T (fits binary32 v) → {a : Float} {k : ℕ} → Measured a k → lt a (magnitude v) ≡ ltb k (unitsOf v)
+unfolding lt neg ofBits
+under-magnitude nan t {a} {k} p = under-nan a ∙ sym (le-ltb k 0 zero-le)
+under-magnitude (inf true) t p = lt-size (p .size) infinite
+under-magnitude (inf false) t p = lt-size (p .size) infinite
+under-magnitude (fin true m e) t {a} {k} p = by (lt (fin true m e) nought) refl
+  where
+    by : (s : Bool) → lt (fin true m e) nought ≡ s → lt a (cond s (fin false m e) (fin true m e)) ≡ ltb k (m * up e * 2 ^ 149 / down e)
+    by true h = lt-size (p .size) (measured m e (neg-fits binary32 (fin true m e) t) .size)
+    by false h = under-minus m e (p .size) ∙ sym (rw (no-units m e (nothing m e h)) (le-ltb k 0 zero-le))
+under-magnitude (fin false m e) t p = rw (le-ltb (m * up e * 1) (0 * down e) (rw zero-mul zero-le)) (lt-size (p .size) (measured m e t .size))
+
+-- a reading's magnitude in units, where it has any
+pub magnitude-measured : (v : Float) → T (fits binary32 v) → 0 < unitsOf v → Measured (magnitude v) (unitsOf v)
+unfolding lt neg ofBits
+magnitude-measured nan t h = absurd (lt-irrefl 0 h)
+magnitude-measured (inf true) t h = record { held = neg-fits binary32 (inf true) t; size = infinite }
+magnitude-measured (inf false) t h = record { held = t; size = infinite }
+magnitude-measured (fin true m e) t h = by (lt (fin true m e) nought) refl
+  where
+    by : (s : Bool) → lt (fin true m e) nought ≡ s → Measured (cond s (fin false m e) (fin true m e)) (m * up e * 2 ^ 149 / down e)
+    by true k = measured m e (neg-fits binary32 (fin true m e) t)
+    by false k = absurd (lt-irrefl 0 (subst (λ (n : ℕ). 0 < n) (no-units m e (nothing m e k)) h))
+magnitude-measured (fin false m e) t h = rw (le-ltb (m * up e * 1) (0 * down e) (rw zero-mul zero-le)) (measured m e t)
+
 -- the larger of a and a reading's magnitude: the reading is taken or passed over
 pub taken : (v : Float) → T (fits binary32 v) → {a : Float} {k : ℕ} → Measured a k → Measured (cond (lt a (magnitude v)) (magnitude v) a) (max k (unitsOf v))
-unfolding lt neg ofBits
-taken nan t {a} {k} p = rw (under-nan a, max-zero k) p
-taken (inf true) t p = larger p (record { held = neg-fits binary32 (inf true) t; size = infinite })
-taken (inf false) t p = larger p (record { held = t; size = infinite })
-taken (fin true m e) t {a} {k} p = by (lt (fin true m e) nought) refl
+taken v t {a} {k} p = rw (under-magnitude v t p) (by (ltb k (unitsOf v)) refl)
   where
-    by : (s : Bool) → lt (fin true m e) nought ≡ s → Measured (cond (lt a (cond s (fin false m e) (fin true m e))) (cond s (fin false m e) (fin true m e)) a) (max k (m * up e * 2 ^ 149 / down e))
-    by true h = larger p (measured m e (neg-fits binary32 (fin true m e) t))
-    by false h = rw (under-minus m e (p .size), no-units m e (nothing m e h), max-zero k) p
-taken (fin false m e) t p = rw (le-ltb (m * up e * 1) (0 * down e) (rw zero-mul zero-le)) (larger p (measured m e t))
+    by : (s : Bool) → ltb k (unitsOf v) ≡ s → Measured (cond s (magnitude v) a) (max k (unitsOf v))
+    by true e =
+        let l = ltb-true k (unitsOf v) e in
+        rw (max-eq-right (le-of-lt l)) (magnitude-measured v t (lt-of-le-of-lt zero-le l))
+    by false e = rw (max-eq-left (ltb-false k (unitsOf v) e)) p
 
 -- +0.0 is no units
 pub none : Measured nought 0

@@ -17,3 +17,4 @@ pub mod BothSides
 pub mod Peaks
 pub mod Largest
 pub mod EightLanes
+pub mod FirstLargest

@@ -1,11 +1,11 @@
 -- `narrowed` is what document 01 says of `f32_to_f16`. Assumes nothing.
 use mathlib.Core.Path.{_≡_, refl, sym, ap, _∙_}
-use Prim.Native.Nat.{ℕ, zero, suc, _+_, _-_, _*_, _/_, _%_, _^_, _≤_, _<_}
+use Prim.Native.Nat.{ℕ, suc, _+_, _-_, _*_, _/_, _%_, _^_, _≤_, _<_}
 use native.Mathlib.Nat.{mul-assoc, mul-right-comm, mul-le-mul-right, mul-lt-mul-of-pos-right, suc-mul}
 use native.Mathlib.Numerals.{add-one}
 use native.Mathlib.Omega.{arith}
 use mathlib.Core.Bool.{Bool, true, false, cond}
-use borrow.Author.Tests.{lt-leb, le-leb, leb-true, leb-false}
+use borrow.Author.Tests.{lt-leb, le-leb, leb-false}
 use lib.Dec.{leb}
 use lib.Pow.{pow-pos, pow-add}
 use Rattle.numbers.specs.Binary16.{exponent, digits, multipleOf, exponent32, magnitude16, multiple32, narrowed, Narrows}

@@ -1,13 +1,13 @@
 -- The pattern of a normal binary32 made of a sign bit, a field and eleven leading digits. Assumes nothing.
-use mathlib.Core.Path.{_≡_, refl, sym, ap, _∙_, subst}
+use mathlib.Core.Path.{_≡_, refl, sym, _∙_, subst}
 use Prim.Native.Nat.{ℕ, zero, suc, _+_, _-_, _*_, _/_, _%_, _^_, _≤_, _<_, zero-le}
-use native.Mathlib.Nat.{lt-of-lt-of-le, not-le-of-lt, mul-right-comm, mul-assoc, mul-comm, mul-left-comm, pow-succ'}
+use native.Mathlib.Nat.{lt-of-lt-of-le, not-le-of-lt, mul-right-comm, mul-assoc, pow-succ'}
 use native.Mathlib.Omega.{arith}
-use mathlib.Core.Bool.{Bool, true, false, cond, not}
+use mathlib.Core.Bool.{Bool, cond, not}
 use lib.Dec.{T, leb, eqb, eqb→eq, not-T}
 use lib.Pow.{pow-pos, pow-add, pow-mono, shl-lt}
 use borrow.Author.Tests.{lt-leb, le-leb, le-ltb}
-use lib.Ieee.{Float, nan, inf, binary32, odd, ofFields, ofBits, round, fits, nanBits}
+use lib.Ieee.{Float, nan, inf, binary32, odd, ofFields, ofBits, round, nanBits}
 use lib.Ieee.Bits.{cond-no, ofBits-fits, nanBits-above}
 use lib.Ieee.Fits.{round-fits}
 use lib.Ieee.Exact.{HasValue, odd-sign, round-exact}

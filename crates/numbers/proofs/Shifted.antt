@@ -1,12 +1,11 @@
 -- Digits that are shifted up by k places, with the exponent down by as many. Assumes nothing.
-use mathlib.Core.Path.{_≡_, refl, sym, ap, _∙_, subst}
+use mathlib.Core.Path.{_≡_, sym, ap, _∙_, subst}
 use Prim.Native.Nat.{ℕ, suc, _+_, _-_, _*_, _^_, _≤_, _<_}
-use native.Mathlib.Nat.{lt-of-not-le, not-le-of-lt, le-trans, mul-assoc, one-mul, pow-succ', mul-comm, mul-le-mul-right, mul-lt-mul-of-pos-right}
+use native.Mathlib.Nat.{lt-of-not-le, not-le-of-lt, le-trans, mul-assoc, one-mul, pow-succ', mul-comm, mul-le-mul-right}
 use native.Mathlib.Omega.{arith}
 use mathlib.Core.Bool.{Bool}
-use lib.Pow.{pow-pos, pow-add, pow-mono, shl-lt}
-use lib.Count.{leadingZeros, leading-top}
-use lib.Ieee.{Float, binary32, round}
+use lib.Pow.{pow-pos, pow-add, pow-mono}
+use lib.Ieee.{binary32, round}
 use lib.Ieee.Scale.{round-same}
 
 pub shifted : (s : Bool) (a k e : ℕ) → k + e ≡ 113 → round binary32 s (a * 2 ^ k * 2 ^ e) (2 ^ 137) ≡ round binary32 s a (2 ^ 24)

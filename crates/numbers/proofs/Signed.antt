@@ -9,7 +9,7 @@ use lib.IntN.{ℤ, pos, negsuc, _-ℤ_}
 use lib.Signed.{mag}
 use borrow.Author.Tests.{le-ltb}
 use mir.Syntax.{Width, w8}
-use mir.Val.{SFits, hbits, toZ, ofZ, sel}
+use mir.Val.{hbits, toZ, ofZ, sel}
 use mir.ValLaws.{toZ-ofZ}
 use Rattle.numbers.specs.Fields.{signed}
 

@@ -1,13 +1,13 @@
 -- A float as a whole number, by where it lies: at a bound b * 2 ^ j and above, at minus the bound and below, and between. Assumes nothing.
 use mathlib.Core.Path.{_≡_, refl, sym, ap, _∙_, subst}
-use mathlib.Core.Bool.{Bool, true, false, _&&_, _||_, cond}
+use mathlib.Core.Bool.{Bool, true, false, _&&_, _||_}
 use mathlib.Core.Logic.{⊎-elim, _⊎_, inl, inr}
 use Prim.Native.Nat.{ℕ, zero, suc, _+_, _*_, _-_, _/_, _^_, _≤_, _<_, min}
 use native.Mathlib.Nat.{mul-one, le-div-iff-mul-le, div-lt-iff-lt-mul, min-eq-left, min-eq-right, min-le-right, le-refl, le-of-lt, le-trans, lt-of-lt-of-le, mul-le-mul-right, mul-pos}
 use native.Mathlib.Omega.{arith}
 use borrow.Author.Tests.{lt-ltb, eqb-true, eqb-false, ltb-true, ltb-false}
 use lib.Dec.{T, ltb, eqb}
-use lib.IntN.{ℤ, pos, negsuc, negℤ}
+use lib.IntN.{ℤ, pos, negℤ}
 use lib.Ieee.{Float, nan, inf, fin, up, down, le, lt, ne, toSigned}
 use lib.Ieee.Fits.{down-pos}
 use lib.Signed.{mag}

@@ -11,6 +11,7 @@ use Rattle.numbers.proofs.fields.le_u32.Reads as le-u32
 use Rattle.numbers.proofs.fields.signed_byte.Reads as signed-byte
 use Rattle.numbers.proofs.readings.inverse_of.Reads as inverse-of
 use Rattle.numbers.proofs.readings.largest_magnitude.Reads as largest-magnitude
+use Rattle.numbers.proofs.readings.largest_value.Reads as largest-value
 use Rattle.numbers.proofs.readings.round_q4_0.Reads as round-q4-0
 use Rattle.numbers.proofs.readings.round_q8.Reads as round-q8
 use Rattle.numbers.proofs.steps.magnitude_of.Reads as magnitude-of
@@ -52,6 +53,9 @@ inverse-of-once κs a x y s t h k = same h k
 
 pub largest-magnitude-once : OneResult largest-magnitude.Post
 largest-magnitude-once κs a x y s t h k = same h k
+
+pub largest-value-once : OneResult largest-value.Post
+largest-value-once κs a x y s t h k = same h k
 
 pub round-q8-once : OneResult round-q8.Post
 round-q8-once κs a x y s t h k = same h k

@@ -14,6 +14,7 @@ pub use fields::le_u32;
 pub use fields::signed_byte;
 pub use readings::inverse_of;
 pub use readings::largest_magnitude;
+pub use readings::largest_value;
 pub use readings::round_q4_0;
 pub use readings::round_q8;
 pub use steps::magnitude_of;

@@ -3,13 +3,13 @@
 use crate::steps::magnitude_of;
 ghost use mathlib.Core.Path.{_≡_};
 ghost use Prim.Native.Nat.{_<_};
-ghost use mathlib.Core.Bool.{true, cond};
+ghost use mathlib.Core.Bool.{true, cond, not, _&&_};
 ghost use mathlib.Core.Logic.{_⊎_};
 ghost use lib.IntN.{pos};
 ghost use lib.ListN.{length};
 ghost use lib.Ieee.{binary32, ofBits, lt, sub};
-ghost use Rattle.numbers.specs.Steps.{nought, truncated};
-ghost use Rattle.numbers.specs.Readings.{largest, inverse, held, quantQ8, quantQ40};
+ghost use Rattle.numbers.specs.Steps.{nought, magnitude, truncated};
+ghost use Rattle.numbers.specs.Readings.{largest, largestValue, inverse, held, quantQ8, quantQ40};
 
 // The larger of the two; a where b is a NaN.
 fn larger_of(a: f32, b: f32) -> f32
@@ -99,4 +99,27 @@ pub fn largest_magnitude(x: &[f32]) -> f32
         i += 8;
     }
     larger_of(largest_in_order(&lanes), largest_in_order(&x[whole..]))
+}
+
+// Whether the magnitude of v is `most` or more, and above 0: so a NaN's is not.
+fn reaches(v: f32, most: f32) -> bool
+    ensures { λ r. ⌜ r ≡ (lt nought (magnitude v) && not (lt (magnitude v) most)) ⌝ }
+{
+    let m = magnitude_of(v);
+    if 0.0 < m { !(m < most) } else { false }
+}
+
+// The first value of largest magnitude: +0.0 where every reading is a zero or a NaN. The largest magnitude is found in lanes, and then the
+// first reading that has it: one after the other, the two would wait for each comparison.
+pub fn largest_value(x: &[f32]) -> f32
+    ensures { λ r. ⌜ r ≡ largestValue (now (x .entry)) (length (now (x .entry))) ⌝ }
+{
+    let most = largest_magnitude(x);
+    for i in 0..x.len() {
+        let v = x[i];
+        if reaches(v, most) {
+            return v;
+        }
+    }
+    0.0
 }

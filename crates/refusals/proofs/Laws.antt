@@ -1,10 +1,10 @@
 -- Laws of the refusals of a call that writes lent memory. Assumes nothing.
-use mathlib.Core.Path.{_≡_, refl, ap, _∙_, subst}
+use mathlib.Core.Path.{_≡_, refl}
 use mathlib.Core.Bool.{Bool, true, false}
 use Prim.Native.Nat.{ℕ, zero, suc, _<_}
 use native.Mathlib.Omega.{arith}
-use Rattle.refusals.specs.Said.{Said, done, refused}
-use Rattle.refusals.specs.Refusals.{given, orElse, carriedOut}
+use Rattle.refusals.specs.Said.{done, refused}
+use Rattle.refusals.specs.Refusals.{given, carriedOut}
 
 -- a check that fails the call gives its number
 pub given-yes : (num later : ℕ) (check : Bool) → check ≡ true → given num check later ≡ num

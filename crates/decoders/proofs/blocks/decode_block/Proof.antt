@@ -1,5 +1,5 @@
 -- `blocks::decode_block` meets its contract: each family of formats its own. Assumes nothing.
-use mathlib.Core.Path.{_≡_, refl, sym, ap, _∙_}
+use mathlib.Core.Path.{sym, ap, _∙_}
 use Rattle.memory.specs.Lists.{table}
 use borrow.Author.Needs.{needs}
 use Rattle.layouts.specs.Formats.{blockBytes, blockValues}

@@ -1,6 +1,6 @@
 -- `blocks::decode_blocks` meets its contract: in turn b block b is decoded into its own places. Assumes nothing.
 use mathlib.Core.Path.{_≡_, refl, sym, ap, _∙_}
-use Prim.Native.Nat.{ℕ, _+_, _-_, _*_, _/_, _≤_, _<_, zero-le}
+use Prim.Native.Nat.{_+_, _-_, _*_, _/_, _≤_, _<_, zero-le}
 use native.Mathlib.Nat.{le-antisymm, lt-of-lt-of-le, zero-mul, suc-mul, div-le-self}
 use native.Mathlib.Numerals.{add-one}
 use lib.ListN.{length, take, drop}

@@ -1,10 +1,9 @@
 -- `blocks::dequantize` meets its contract: a refusal, or every block decoded. Assumes nothing.
-use mathlib.Core.Path.{_≡_, refl, sym, ap, _∙_}
-use Prim.Native.Nat.{ℕ}
+use mathlib.Core.Path.{sym, ap, _∙_}
 use mathlib.Core.List.{List}
 use lib.ListN.{length}
 use lib.Ieee.{Float}
-use Rattle.refusals.specs.Said.{Said, done}
+use Rattle.refusals.specs.Said.{done}
 use Rattle.refusals.proofs.Laws.{carried-done, carried-refused}
 use borrow.Author.Needs.{needs}
 use Rattle.decoders.specs.Says.{dequantizeNo, dequantizeSays}

@@ -1,6 +1,6 @@
 -- `k::decode_q6k` meets its contract: in turn e the run of 16 from 16 e on is filled. Assumes nothing.
 use mathlib.Core.Path.{_≡_, refl, sym, ap, _∙_}
-use Prim.Native.Nat.{ℕ, _+_, _-_, _*_, _≤_, _<_}
+use Prim.Native.Nat.{_+_, _-_, _*_, _≤_}
 use native.Mathlib.Nat.{le-of-eq}
 use lib.IntN.{pos}
 use lib.ListN.{length, getD, take, drop}

@@ -1,9 +1,9 @@
 -- `k::minimums_q4k` meets its contract: the places are filled in turn. Assumes nothing.
-use mathlib.Core.Path.{_≡_, refl, sym, ap, _∙_}
-use Prim.Native.Nat.{ℕ, _+_, _-_, _*_}
+use mathlib.Core.Path.{refl, ap, _∙_}
+use Prim.Native.Nat.{ℕ, _-_}
 use mathlib.Core.List.{List}
 use lib.IntN.{pos}
-use lib.ListN.{getD, replicate}
+use lib.ListN.{replicate}
 use lib.Ieee.{Float, binary32, ofBits, mul, ofInt}
 use Rattle.numbers.specs.Binary16.{widened}
 use native.Mathlib.Omega.{arith}

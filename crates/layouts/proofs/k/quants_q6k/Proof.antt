@@ -1,6 +1,6 @@
 -- `k::quants_q6k` meets its contract: in turn l the eight places l, 32 + l, .. are filled. Assumes nothing.
 use mathlib.Core.Path.{_≡_, refl, _∙_}
-use Prim.Native.Nat.{ℕ, _+_, _-_, _*_, _/_, _%_, _^_, _≤_, _<_}
+use Prim.Native.Nat.{ℕ, _+_, _-_, _*_, _/_, _%_, _≤_, _<_}
 use lib.IntN.{pos, _-ℤ_}
 use lib.ListN.{getD, replicate}
 use Rattle.numbers.proofs.Signed.{byteRead, byte-read}

@@ -1,10 +1,9 @@
 -- `k::scales_q6k` meets its contract: the places are filled in turn. Assumes nothing.
-use mathlib.Core.Path.{_≡_, refl, sym, ap, _∙_}
-use Prim.Native.Nat.{ℕ, _+_, _-_, _*_}
+use mathlib.Core.Path.{refl, ap, _∙_}
+use Prim.Native.Nat.{ℕ, _-_, _*_}
 use native.Mathlib.Nat.{add-zero}
 use mathlib.Core.List.{List}
-use lib.IntN.{ℤ}
-use lib.ListN.{getD, replicate}
+use lib.ListN.{replicate}
 use lib.Ieee.{Float, binary32, ofBits, mul, ofInt}
 use mir.Syntax.{w8}
 use Rattle.numbers.specs.Binary16.{widened}

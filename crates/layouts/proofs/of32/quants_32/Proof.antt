@@ -1,5 +1,5 @@
 -- `of32::quants_32` meets its contract: each layout its own. Assumes nothing.
-use mathlib.Core.Path.{_≡_, refl, sym, ap, _∙_}
+use mathlib.Core.Path.{sym, ap, _∙_}
 use Rattle.memory.specs.Lists.{table}
 use borrow.Author.Needs.{needs}
 use Rattle.layouts.specs.Formats.{bytes32}

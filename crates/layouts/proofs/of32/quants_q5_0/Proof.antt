@@ -1,8 +1,8 @@
 -- `of32::quants_q5_0` meets its contract: in turn k the places k and k + 16 are filled. Assumes nothing.
-use mathlib.Core.Path.{_≡_, refl, sym, ap, _∙_}
-use Prim.Native.Nat.{ℕ, _+_, _-_, _*_, _/_, _%_, _^_, _≤_, _<_}
-use lib.IntN.{ℤ, pos, _-ℤ_}
-use lib.ListN.{getD, replicate}
+use mathlib.Core.Path.{_≡_, refl}
+use Prim.Native.Nat.{ℕ, _+_, _-_, _%_, _≤_, _<_}
+use lib.IntN.{pos}
+use lib.ListN.{replicate}
 use Rattle.numbers.specs.Fields.{le32}
 use Rattle.numbers.proofs.Signed.{byteRead, byte-read}
 use Rattle.memory.proofs.Streams.{Done, done-none, done-more, done-all}

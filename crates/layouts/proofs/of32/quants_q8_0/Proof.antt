@@ -1,11 +1,9 @@
 -- `of32::quants_q8_0` meets its contract: the places are filled in turn. Assumes nothing.
-use mathlib.Core.Path.{_≡_, refl, sym, ap, _∙_}
-use Prim.Native.Nat.{ℕ, _+_, _-_}
-use mathlib.Core.List.{List}
-use lib.IntN.{ℤ, pos}
-use lib.ListN.{getD, replicate}
+use mathlib.Core.Path.{refl, _∙_}
+use Prim.Native.Nat.{_-_}
+use lib.IntN.{pos}
+use lib.ListN.{replicate}
 use mir.Syntax.{w8}
-use Rattle.numbers.specs.Fields.{signed}
 use Rattle.numbers.proofs.Signed.{read-is}
 use native.Mathlib.Omega.{arith}
 use borrow.Author.Needs.{needs}

@@ -1,11 +1,10 @@
 use mathlib.Core.Path.{_≡_, refl, sym, ap, _∙_}
-use Prim.Native.Nat.{ℕ, _+_, _*_, _/_, _%_, _^_, _<_}
+use Prim.Native.Nat.{ℕ, _+_, _*_, _/_, _^_, _<_}
 use native.Mathlib.Omega.{arith}
 use mathlib.Core.Bool.{Bool}
 use borrow.Author.Needs.{needs}
-use lib.Dec.{eqb}
 use lib.Ieee.{inf, binary32, round}
-use Rattle.numbers.specs.Binary16.{negative, exponent, digits, multiple}
+use Rattle.numbers.specs.Binary16.{negative, exponent, digits}
 use Rattle.numbers.proofs.Patterns.{no-nan}
 use Rattle.numbers.proofs.Cases.{sign-bit, infinite, nought, no-number, at-infinity, at-nan, at-finite, normal}
 use Rattle.numbers.proofs.binary16.f16_to_f32.Statement.{statement}

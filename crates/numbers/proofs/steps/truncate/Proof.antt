@@ -1,11 +1,9 @@
 -- `steps::truncate` meets its contract: the laws of Truncation.antt at the bound 2 ^ 31, for each of the four ways. Assumes nothing.
 use mathlib.Core.Path.{_≡_, sym, ap, subst, _∙_}
-use native.Mathlib.Omega.{arith}
 use lib.Dec.{T, lit≤, lit<}
 use lib.Ieee.{ofBits, neg, toSigned}
 use lib.Ieee.Compare.{differs-from-itself}
 use mir.Syntax.{w32, w64}
-use mir.Val.{SFits}
 use mir.ValLaws.{toZ-ofZ}
 use Rattle.numbers.specs.Steps.{truncated}
 use Rattle.numbers.proofs.Signed.{read-is}
