@@ -1,11 +1,10 @@
 -- How large a block is, and where it lies in a run of blocks. Assumes nothing.
-use mathlib.Core.Path.{_≡_, subst}
-use Prim.Native.Nat.{ℕ, _+_, _-_, _*_, _/_, _^_, _≤_, _<_}
-use native.Mathlib.Nat.{le-trans, lt-of-le-of-lt, suc-mul, mul-le-mul-right, mul-le-mul-left, div-mul-le-self, div-le-self}
+use mathlib.Core.Path.{_≡_}
+use Prim.Native.Nat.{ℕ, _+_, _-_, _*_, _≤_, _<_}
 use native.Mathlib.Omega.{arith}
 use mathlib.Core.List.{List}
 use lib.Arith.{digits-div, digits-mod}
-use lib.Dec.{lit≤, lit<}
+use lib.Dec.{lit≤}
 use lib.ListN.{take, drop}
 use Rattle.layouts.specs.Formats.{bytes32, blockBytes, blockValues}
 use Rattle.layouts.specs.Weights.{valueIn, weightAt}
@@ -25,14 +24,6 @@ sizes (Of32 f) = let h = least-32 f in (h .0, omega arith, lit≤ tt, lit≤ tt)
 sizes (OfK Q4K) = (lit≤ tt, lit≤ tt, lit≤ tt, lit≤ tt)
 sizes (OfK Q6K) = (lit≤ tt, lit≤ tt, lit≤ tt, lit≤ tt)
 
--- part b of `count` parts of k places is within the room for them all
-pub within : (b k count room : ℕ) → b < count → count * k ≤ room → b * k + k ≤ room
-within b k count room h r = le-trans (subst (λ (z : ℕ). z ≤ count * k) (suc-mul b k) (mul-le-mul-right k h)) r
-
--- and a whole block is within the bytes
-pub within-bytes : (b size n : ℕ) → b < n / size → b * size + size ≤ n
-within-bytes b size n h = within b size (n / size) n h (div-mul-le-self n size)
-
 -- block b's value at place l is the run's at place b * v + l
 pub placed : (f : Format) (bs : List ℕ) (b l size v : ℕ) → size ≡ blockBytes f → v ≡ blockValues f → l < v
     → valueIn f (take (b * size + size - b * size) (drop (b * size) bs)) l ≡ weightAt f bs (b * v + l)
@@ -40,7 +31,3 @@ unfolding weightAt
 placed f bs b l size v S W h =
     let d : b * size + size - b * size ≡ size = omega arith in
     rw (d, ← W, ← S, digits-div b h, digits-mod b h)
-
--- what is counted of an input within the size fits
-pub few-values : (n size v : ℕ) → n ≤ 16777216 → v ≤ 256 → n / size * v < 2 ^ 64
-few-values n size v h k = lt-of-le-of-lt (le-trans (mul-le-mul-right v (le-trans (div-le-self n size) h)) (mul-le-mul-left 16777216 k)) (lit< tt)

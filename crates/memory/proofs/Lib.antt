@@ -1,3 +1,4 @@
 -- What a loop that fills memory leaves.
 pub mod Filled
+pub mod Parts
 pub mod Streams

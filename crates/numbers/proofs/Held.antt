@@ -7,11 +7,11 @@ use native.Mathlib.Nat.{mul-one, zero-mul, zero-div, div-one, mul-le-mul-right, 
 use native.Mathlib.Omega.{arith}
 use borrow.Author.Tests.{lt-ltb, le-ltb, ltb-true, ltb-false}
 use lib.Dec.{ltb}
-use lib.IntN.{ℤ, pos, negsuc, negℤ}
-use lib.Ieee.{Float, nan, inf, fin, binary32, up, down, lt, ofBits, toSigned}
+use lib.IntN.{ℤ, pos, negsuc, negℤ, natAbs}
+use lib.Ieee.{Float, nan, inf, fin, binary32, up, down, lt, add, ofBits, toSigned}
 use lib.Ieee.Fits.{down-pos}
 use Rattle.numbers.specs.Steps.{nought, truncated}
-use Rattle.numbers.specs.Readings.{held}
+use Rattle.numbers.specs.Readings.{held, quantQ40}
 use Rattle.numbers.proofs.Values.{Fraction, finite, power, lt-is, cut-is}
 
 -- ---- whole numbers
@@ -123,3 +123,12 @@ pub record UpTo (n : ℕ) (z : ℤ) : Type 0 where
 pub held-up-to : (n : ℕ) (z : ℤ) → UpTo n (held (pos 0) (pos n) z)
 held-up-to n (pos k) = record { number = min k n; is = held-pos n k; most = min-le-right k n }
 held-up-to n (negsuc k) = record { number = 0; is = refl; most = zero-le }
+
+-- a Q4_0 quant is a nibble
+pub q40-nibble : (p : Float) (r : ℕ) → pos r ≡ quantQ40 p → r < 16
+unfolding quantQ40
+q40-nibble p r e =
+    let u = held-up-to 15 (truncated (add binary32 p (ofBits binary32 0x4108_0000))) in
+    let k : r ≡ u .number = ap natAbs (e ∙ u .is) in
+    let m = u .most in
+    omega arith

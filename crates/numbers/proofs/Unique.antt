@@ -9,6 +9,7 @@ use Rattle.numbers.proofs.bits.of_bits.Reads as of-bits
 use Rattle.numbers.proofs.fields.le_u16.Reads as le-u16
 use Rattle.numbers.proofs.fields.le_u32.Reads as le-u32
 use Rattle.numbers.proofs.fields.signed_byte.Reads as signed-byte
+use Rattle.numbers.proofs.fields.unsigned_byte.Reads as unsigned-byte
 use Rattle.numbers.proofs.readings.inverse_of.Reads as inverse-of
 use Rattle.numbers.proofs.readings.largest_magnitude.Reads as largest-magnitude
 use Rattle.numbers.proofs.readings.largest_value.Reads as largest-value
@@ -38,6 +39,9 @@ le-u32-once κs a x y s t h k = same h k
 
 pub signed-byte-once : OneResult signed-byte.Post
 signed-byte-once κs a x y s t h k = same h k
+
+pub unsigned-byte-once : OneResult unsigned-byte.Post
+unsigned-byte-once κs a x y s t h k = same h k
 
 pub magnitude-of-once : OneResult magnitude-of.Post
 magnitude-of-once κs a x y s t h k = same h k

@@ -17,3 +17,8 @@ le32 bs i = le16 bs i + 65536 * le16 bs (i + 2)
 -- a byte as a signed number, in two's complement
 abbrev pub signed : ℕ → ℤ
 signed b = cond (ltb b 128) (pos b) (negsuc (255 - b))
+
+-- a signed number from -128 to 127 as a byte, in two's complement
+abbrev pub byteOf : ℤ → ℕ
+byteOf (pos n) = n
+byteOf (negsuc n) = 255 - n

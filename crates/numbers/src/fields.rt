@@ -1,7 +1,7 @@
 // The fields of packed bytes: little-endian numbers, and a byte as a signed number.
 ghost use mathlib.Core.Path.{_≡_};
 ghost use Prim.Native.Nat.{_+_, _*_};
-ghost use Rattle.numbers.specs.Fields.{signed};
+ghost use Rattle.numbers.specs.Fields.{signed, byteOf};
 
 // The little-endian number of two bytes, the low one first.
 pub fn le_u16(b0: u8, b1: u8) -> u16
@@ -25,5 +25,16 @@ pub fn signed_byte(b: u8) -> i8
         b as i8
     } else {
         -1 - ((255 - b) as i8)
+    }
+}
+
+// A signed number as a byte, in two's complement.
+pub fn unsigned_byte(z: i8) -> u8
+    ensures { λ r. ⌜ r ≡ byteOf z ⌝ }
+{
+    if z >= 0 {
+        z as u8
+    } else {
+        255 - ((-1 - z) as u8)
     }
 }

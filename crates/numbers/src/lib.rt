@@ -12,6 +12,7 @@ pub use bits::of_bits;
 pub use fields::le_u16;
 pub use fields::le_u32;
 pub use fields::signed_byte;
+pub use fields::unsigned_byte;
 pub use readings::inverse_of;
 pub use readings::largest_magnitude;
 pub use readings::largest_value;

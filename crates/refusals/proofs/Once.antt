@@ -1,6 +1,6 @@
 -- Uniqueness, said of a contract's own reading (the `Post` of a function's `Reads`): at the same arguments it holds of one answer alone. Assumes nothing.
-use mathlib.Core.Path.{_≡_, refl, sym, _∙_}
-use Rattle.refusals.specs.Said.{saidBy, outcomeSays}
+use mathlib.Core.Path.{_≡_, refl, sym, ap, _∙_}
+use Rattle.refusals.specs.Said.{Said, saidBy, outcomeSays}
 use Rattle.refusals.specs.declared.Answer.{Answer}
 use Rattle.refusals.specs.declared.Answer.the-variants as answer
 use Rattle.refusals.specs.declared.Outcome.{Outcome}
@@ -32,3 +32,7 @@ one-outcome outcome.Done outcome.Done e = refl
 one-outcome outcome.Done (outcome.Refused num) e = cc
 one-outcome (outcome.Refused num) outcome.Done e = cc
 one-outcome (outcome.Refused num) (outcome.Refused other) e = cc
+
+-- a call that fills lent memory: what it says and what it leaves, both
+pub one-filled : {M : Type 0} (x y : Outcome) {m n : M} {z : Said × M} → (outcomeSays x, m) ≡ z → (outcomeSays y, n) ≡ z → (x ≡ y) × (m ≡ n)
+one-filled {M} x y h k = let e = same h k in (one-outcome x y (ap (λ (p : Said × M). p .0) e), ap (λ (p : Said × M). p .1) e)

@@ -10,7 +10,8 @@ use native.Mathlib.Omega.{arith}
 use borrow.Author.Needs.{needs}
 use Rattle.layouts.specs.Formats.{blockBytes, blockValues}
 use Rattle.layouts.specs.Weights.{valueIn, weightAt}
-use Rattle.layouts.proofs.Sizes.{sizes, within, within-bytes, placed}
+use Rattle.memory.proofs.Parts.{within, within-whole}
+use Rattle.layouts.proofs.Sizes.{sizes, placed}
 use Rattle.decoders.proofs.blocks.decode_blocks.Statement.{statement}
 use Rattle.decoders.proofs.blocks.decode_blocks.Tie as tie
 
@@ -45,7 +46,7 @@ facts c =
     let values = c .before .before .block-values in
     let h = c .loop-test .taken in
     let room : length (t .args .bytes .now) / size .result * values .result ≤ length (t .args .out .now) = rw (size .ensures, values .ensures) (t .pre) in
-    let in-bytes = within-bytes b (size .result) (length (t .args .bytes .now)) h in
+    let in-bytes = within-whole b (size .result) (length (t .args .bytes .now)) h in
     let in-out = within b (values .result) (length (t .args .bytes .now) / size .result) (length (t .args .out .now)) h room in
     (in-bytes, in-out, lt-of-lt-of-le h (div-le-self (length (t .args .bytes .now)) (size .result)))
 

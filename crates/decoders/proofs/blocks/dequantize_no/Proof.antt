@@ -6,7 +6,8 @@ use Rattle.refusals.proofs.Laws.{given-yes, given-no}
 use native.Mathlib.Omega.{arith}
 use borrow.Author.Needs.{needs}
 use Rattle.decoders.specs.Says.{dequantizeNo}
-use Rattle.layouts.proofs.Sizes.{sizes, few-values}
+use Rattle.memory.proofs.Parts.{few}
+use Rattle.layouts.proofs.Sizes.{sizes}
 use Rattle.decoders.proofs.blocks.dequantize_no.Statement.{statement}
 use Rattle.decoders.proofs.blocks.dequantize_no.Tie as tie
 
@@ -31,7 +32,7 @@ block-values-requires : tie.Need-block-values-requires
 block-values-requires c κs = search needs
 
 mul-if3 : tie.Need-mul-if3
-mul-if3 c = record { fits = few-values (c .before .before .before .before .args .n) (c .before .before .before .block-bytes .result) (c .block-values .result) (c .before .before .if1 .left) (omega (arith, sizes (c .before .before .before .before .args .format), c .block-values .ensures)) }
+mul-if3 c = record { fits = few (c .before .before .before .before .args .n) (c .before .before .before .block-bytes .result) (c .block-values .result) (c .before .before .if1 .left) (omega (arith, sizes (c .before .before .before .before .args .format), c .block-values .ensures)) }
 
 returns-3 : tie.Need-returns-3
 unfolding dequantizeNo

@@ -1,0 +1,60 @@
+-- The bytes of a block: the stored scale's two, and then the quants'. Assumes nothing.
+use mathlib.Core.Path.{_≡_, refl, sym, ap, _∙_, subst}
+use Prim.Native.Nat.{ℕ, zero, suc, _+_, _-_, _*_, _/_, _%_, _≤_, _<_}
+use native.Mathlib.Nat.{le-of-eq}
+use native.Mathlib.Omega.{arith}
+use mathlib.Core.List.{List, _++_}
+use lib.Arith.{digits-div, digits-mod}
+use lib.Dec.{lit≤}
+use lib.ListN.{length, getD, set, take, drop}
+use lib.Ieee.{Float, nan, binary32, mul}
+use Rattle.memory.specs.Lists.{table, filled, part}
+use Rattle.memory.proofs.Filled.{Filling, filling-start, filling-more, filled-all, part-turn}
+use Rattle.numbers.specs.Fields.{byteOf}
+use Rattle.numbers.specs.Readings.{inverse, quantQ8, quantQ40}
+use Rattle.quantizers.specs.Blocks.{blockSize, scaleOf, storedScale, scaledReading, quantOf, quantByte, byteAt}
+use Rattle.quantizers.specs.Says.{packedAt}
+use Rattle.quantizers.specs.declared.target.Target.{Target}
+use Rattle.quantizers.specs.declared.target.Target.the-variants.{Q40, Q80}
+
+pub block-sizes : (t : Target) → (18 ≤ blockSize t) × (blockSize t ≤ 34)
+block-sizes Q40 = (lit≤ tt, lit≤ tt)
+block-sizes Q80 = (lit≤ tt, lit≤ tt)
+
+after-scale : (t : Target) (xs : List Float) (l : ℕ) → quantByte t xs l ≡ byteAt t xs (2 + l)
+unfolding byteAt
+after-scale t xs l = let e : 2 + l ≡ suc (suc l) = omega arith in rw e
+
+-- what the writers of the quants put, as the block has it
+pub q40-byte : (xs : List Float) (inv : Float) → inv ≡ inverse (scaleOf Q40 xs) → (k : ℕ)
+    → byteOf (quantQ40 (mul binary32 (getD xs (2 * k) nan) inv)) + 16 * byteOf (quantQ40 (mul binary32 (getD xs (2 * k + 1) nan) inv)) ≡ byteAt Q40 xs (2 + k)
+unfolding quantByte quantOf scaledReading
+q40-byte xs inv e k = rw e (after-scale Q40 xs k)
+
+pub q80-byte : (xs : List Float) (inv : Float) → inv ≡ inverse (scaleOf Q80 xs) → (k : ℕ)
+    → byteOf (quantQ8 (mul binary32 (getD xs k nan) inv)) ≡ byteAt Q80 xs (2 + k)
+unfolding quantByte quantOf scaledReading
+q80-byte xs inv e k = rw e (after-scale Q80 xs k)
+
+-- the scale's two bytes are stored, and then the part behind them is filled by g
+module _ (t : Target) (xs : List Float) (out : List ℕ) (half size k : ℕ) (L : length out ≡ size) (S : size ≡ 2 + k) (h : half ≡ storedScale (scaleOf t xs)) where
+  scale-bytes : Filling (byteAt t xs) out size (set (set out 0 (half % 256)) 1 (half / 256)) 2
+  unfolding byteAt
+  scale-bytes =
+      let one = filling-more (byteAt t xs) out size out 0 (half % 256) L (filling-start (byteAt t xs) out size L) (omega arith) (ap (λ (n : ℕ). n % 256) h) in
+      filling-more (byteAt t xs) out size (set out 0 (half % 256)) 1 (half / 256) L one (omega arith) (ap (λ (n : ℕ). n / 256) h)
+
+  pub block-filled : (g : ℕ → ℕ) (ys : List ℕ) → ys ≡ table g k → ((l : ℕ) → g l ≡ byteAt t xs (2 + l))
+      → (let o = set (set out 0 (half % 256)) 1 (half / 256) in
+      (take 2 o ++ (ys ++ drop (size - 2) (drop 2 o)) ≡ table (byteAt t xs) size) × (length (take 2 o ++ (ys ++ drop (size - 2) (drop 2 o))) ≡ length out))
+  block-filled g ys e q =
+      let p = part-turn (byteAt t xs) g out (set (set out 0 (half % 256)) 1 (half / 256)) ys 2 k size size S refl (le-of-eq (sym L)) (scale-bytes .0) e (λ l u. q l) in
+      (p .0 ∙ filled-all (byteAt t xs) out size (le-of-eq L), p .1)
+
+-- block b's byte at place l is the output's at place b * size + l
+pub placed : (t : Target) (xs : List Float) (b l size : ℕ) → size ≡ blockSize t → l < size
+    → byteAt t (take (b * 32 + 32 - b * 32) (drop (b * 32) xs)) l ≡ packedAt t xs (b * size + l)
+unfolding packedAt
+placed t xs b l size S h =
+    let d : b * 32 + 32 - b * 32 ≡ 32 = omega arith in
+    rw (d, ← S, digits-div b h, digits-mod b h)

@@ -1,0 +1,46 @@
+-- `block::scale_of` meets its contract: each target its own. Assumes nothing.
+use mathlib.Core.Path.{_≡_, refl, sym, ap, _∙_, subst}
+use Prim.Native.Nat.{ℕ}
+use lib.Ieee.{binary32, div, ofBits, neg}
+use Rattle.numbers.specs.Readings.{largest, largestValue}
+use borrow.Author.Needs.{needs}
+use Rattle.quantizers.specs.Blocks.{scaleOf}
+use Rattle.quantizers.specs.declared.target.Target.{Target}
+use Rattle.quantizers.specs.declared.target.Target.the-variants.{Q40, Q80}
+use Rattle.quantizers.proofs.block.scale_of.Statement.{statement}
+use Rattle.quantizers.proofs.block.scale_of.Tie as tie
+
+enum-told : tie.Need-enum-told
+enum-told c = search needs
+
+largest-value-requires : tie.Need-largest-value-requires
+largest-value-requires c κs = search needs
+
+enum-told-2 : tie.Need-enum-told-2
+enum-told-2 c = search needs
+
+largest-magnitude-requires : tie.Need-largest-magnitude-requires
+largest-magnitude-requires c κs = search needs
+
+returns : tie.Need-returns
+unfolding scaleOf neg ofBits
+returns c =
+    let xs = c .before .before .before .before .args .x .now in
+    rw (c .largest-value .ensures, c .before .before .before .before .pre, c .before .enum-told .given .1)
+
+returns-2 : tie.Need-returns-2
+unfolding scaleOf ofBits
+returns-2 c =
+    let xs = c .before .before .before .before .args .x .now in
+    rw (c .largest-magnitude .ensures, c .before .before .before .before .pre, c .before .enum-told2 .given .1)
+
+pub scale-of-spec : {M : Type 1} → statement M
+scale-of-spec =
+    tie.close
+    (tie.spec
+    enum-told
+    largest-value-requires
+    enum-told-2
+    largest-magnitude-requires
+    returns
+    returns-2)

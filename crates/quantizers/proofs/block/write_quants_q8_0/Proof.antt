@@ -1,0 +1,82 @@
+-- `block::write_quants_q8_0` meets its contract: the places are filled in turn. Assumes nothing.
+use mathlib.Core.Path.{_≡_, refl, sym, ap, _∙_, subst}
+use Prim.Native.Nat.{ℕ, _-_}
+use mathlib.Core.List.{List}
+use lib.ListN.{getD}
+use lib.Ieee.{Float, nan, binary32, mul}
+use mir.Syntax.{w8}
+use Rattle.numbers.specs.Fields.{byteOf}
+use Rattle.numbers.specs.Readings.{quantQ8}
+use Rattle.numbers.proofs.Signed.{read-is}
+use Rattle.memory.proofs.Filled.{Filling, filling-start, filling-more, filling-done}
+use native.Mathlib.Omega.{arith}
+use borrow.Author.Needs.{needs}
+use Rattle.quantizers.proofs.block.write_quants_q8_0.Statement.{statement}
+use Rattle.quantizers.proofs.block.write_quants_q8_0.Tie as tie
+
+abbrev at : List Float → Float → ℕ → ℕ
+at x inverse k = byteOf (quantQ8 (mul binary32 (getD x k nan) inverse))
+
+abbrev Inv-loop : tie.InvT-loop
+Inv-loop x inverse out₀ k₀ out k = Filling (at x inverse) out₀ 32 out k
+
+abbrev μ-loop : tie.MeasureT-loop
+μ-loop x inverse out₀ k₀ out k = 32 - k
+
+loop-holds : tie.Need-loop-holds Inv-loop μ-loop
+loop-holds c = filling-start (at (c .before .before .args .x .now) (c .before .before .args .inverse)) (c .before .before .args .out .now) 32 (c .before .before .pre .1)
+
+mul-round-q8 : tie.Need-mul-round-q8 Inv-loop μ-loop
+mul-round-q8 c = omega arith
+
+shared-slice-read-round-q8 : tie.Need-shared-slice-read-round-q8 Inv-loop μ-loop
+shared-slice-read-round-q8 c = omega arith
+
+round-q8-requires : tie.Need-round-q8-requires Inv-loop μ-loop
+round-q8-requires c κs = search needs
+
+unsigned-byte-requires : tie.Need-unsigned-byte-requires Inv-loop μ-loop
+unsigned-byte-requires c κs = search needs
+
+slice-write-out : tie.Need-slice-write-out Inv-loop μ-loop
+slice-write-out c = omega arith
+
+add-k : tie.Need-add-k Inv-loop μ-loop
+add-k c = omega arith
+
+loop-less : tie.Need-loop-less Inv-loop μ-loop
+loop-less c = omega arith
+
+loop-again : tie.Need-loop-again Inv-loop μ-loop
+loop-again c =
+    let l = c .before .before .before .before .loop in
+    let t = c .before .before .before .before .before .before .before in
+    filling-more (at (t .args .x .now) (t .args .inverse)) (t .args .out .now) 32 (l .out) (l .k) _ (t .pre .1) (l .inv) (c .before .before .before .loop-test .taken)
+    (c .unsigned-byte .ensures ∙ ap byteOf (read-is w8 _ (c .before .round-q8 .ok) ∙ c .before .round-q8 .ensures))
+
+same-length : tie.Need-same-length Inv-loop μ-loop
+same-length c = c .before .loop .inv .2 ∙ sym (c .before .before .before .before .pre .1)
+
+returns : tie.Need-returns Inv-loop μ-loop
+returns c =
+    let l = c .before .loop in
+    let t = c .before .before .before .before in
+    filling-done (at (t .args .x .now) (t .args .inverse)) (t .args .out .now) 32 (l .out) (l .k) (t .pre .1) (l .inv) (c .loop-test .left)
+
+pub write-quants-q8-0-spec : {M : Type 1} → statement M
+write-quants-q8-0-spec =
+    tie.close
+    (tie.spec
+    Inv-loop
+    μ-loop
+    loop-holds
+    mul-round-q8
+    shared-slice-read-round-q8
+    round-q8-requires
+    unsigned-byte-requires
+    slice-write-out
+    add-k
+    loop-less
+    loop-again
+    same-length
+    returns)

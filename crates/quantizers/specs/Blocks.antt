@@ -1,0 +1,47 @@
+-- The bytes of a quantised block of 32 readings. Definitions only.
+use Prim.Native.Nat.{ℕ, zero, suc, _+_, _-_, _*_, _/_, _%_}
+use mathlib.Core.Bool.{cond}
+use mathlib.Core.List.{List}
+use lib.Dec.{ltb}
+use lib.IntN.{ℤ}
+use lib.ListN.{getD}
+use lib.Ieee.{Float, nan, binary32, mul, div, ofBits, toBits}
+use Rattle.numbers.specs.Binary16.{narrowed}
+use Rattle.numbers.specs.Fields.{byteOf}
+use Rattle.numbers.specs.Readings.{largest, largestValue, inverse, quantQ8, quantQ40}
+use Rattle.quantizers.specs.declared.target.Target.{Target}
+use Rattle.quantizers.specs.declared.target.Target.the-variants.{Q40, Q80}
+
+-- how many bytes a block has
+abbrev pub blockSize : Target → ℕ
+blockSize Q40 = 18
+blockSize Q80 = 34
+
+-- d. Q4_0: the first value of largest magnitude over -8. Q8: largest/127.
+unfoldable pub scaleOf : Target → List Float → Float
+scaleOf Q40 xs = div binary32 (largestValue xs 32) (ofBits binary32 0xc100_0000)
+scaleOf Q80 xs = div binary32 (largest xs 32) (ofBits binary32 0x42fe_0000)
+
+-- the stored scale is `f32_to_f16` of d
+unfoldable pub storedScale : Float → ℕ
+storedScale d = narrowed (toBits binary32 d)
+
+-- reading i times the inverse, which is of d itself
+unfoldable pub scaledReading : Target → List Float → ℕ → Float
+scaledReading t xs i = mul binary32 (getD xs i nan) (inverse (scaleOf t xs))
+
+-- the quant of reading i
+unfoldable pub quantOf : Target → List Float → ℕ → ℤ
+quantOf Q40 xs i = quantQ40 (scaledReading Q40 xs i)
+quantOf Q80 xs i = quantQ8 (scaledReading Q80 xs i)
+
+-- byte k after the scale. Q4_0: the quants of readings 2k and 2k+1 in its low and its high nibble. Q8_0: that of reading k.
+unfoldable pub quantByte : Target → List Float → ℕ → ℕ
+quantByte Q40 xs k = byteOf (quantOf Q40 xs (2 * k)) + 16 * byteOf (quantOf Q40 xs (2 * k + 1))
+quantByte Q80 xs k = byteOf (quantOf Q80 xs k)
+
+-- byte p of a block: the stored scale, little-endian, and then the quants
+unfoldable pub byteAt : Target → List Float → ℕ → ℕ
+byteAt t xs zero = storedScale (scaleOf t xs) % 256
+byteAt t xs (suc zero) = storedScale (scaleOf t xs) / 256
+byteAt t xs (suc (suc k)) = quantByte t xs k

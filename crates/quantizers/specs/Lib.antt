@@ -1,0 +1,3 @@
+-- What the block quantizers write.
+pub mod Blocks
+pub mod Says

@@ -1,0 +1,70 @@
+// The quantizers: every block's bytes, each block's in its own places in the middle of the output.
+use crate::block::quantize_block;
+use crate::target::Target;
+use crate::target::block_size;
+use refusals::Outcome;
+ghost use mathlib.Core.Path.{_≡_};
+ghost use Prim.Native.Nat.{_%_, _≤_};
+ghost use lib.ListN.{length};
+ghost use Rattle.refusals.specs.Said.{outcomeSays};
+ghost use Rattle.memory.specs.Lists.{filled};
+ghost use Rattle.quantizers.specs.Says.{packedAt, bytesFor, quantizeNo, quantizeSays};
+
+// The bytes of the whole blocks of 32 readings, at the front of the output.
+fn quantize_blocks(target: Target, x: &[f32], out: &mut [u8])
+    requires { ⌜ bytesFor target (length (now x)) ≤ length (now out) ⌝ }
+    ensures { λ _. ⌜ now (out .exit) ≡ filled (packedAt target (now (x .entry))) (now (out .entry)) (bytesFor target (length (now (x .entry)))) ⌝ }
+{
+    let size = block_size(target);
+    let count = x.len() / 32;
+    let mut b: usize = 0;
+    while b < count {
+        let from = b * 32;
+        let to = from + 32;
+        let at = b * size;
+        let end = at + size;
+        quantize_block(target, &x[from..to], &mut out[at..end]);
+        b += 1;
+    }
+}
+
+// Why a quantizer of n readings into `room` places says no; 0 where it does not.
+fn quantize_no(target: Target, n: usize, room: usize) -> u32
+    ensures { λ r. ⌜ r ≡ quantizeNo target n room ⌝ }
+{
+    if n > refusals::MOST_FLOATS {
+        return refusals::TOO_LARGE;
+    }
+    if n % 32 != 0 {
+        return refusals::NOT_A_MULTIPLE;
+    }
+    if room < n / 32 * block_size(target) {
+        return refusals::ROOM_SHORT;
+    }
+    0
+}
+
+fn quantize(target: Target, x: &[f32], out: &mut [u8]) -> Outcome
+    ensures { λ r. ⌜ (outcomeSays r, now (out .exit)) ≡ quantizeSays target (now (x .entry)) (now (out .entry)) ⌝ }
+{
+    let no = quantize_no(target, x.len(), out.len());
+    if no != 0 {
+        return Outcome::Refused(no);
+    }
+    quantize_blocks(target, x, out);
+    Outcome::Done
+}
+
+// The readings as Q4_0 blocks. Refuses 6, 2 and 5, in this order.
+pub fn quantize_q4_0(x: &[f32], out: &mut [u8]) -> Outcome
+    ensures { λ r. ⌜ (outcomeSays r, now (out .exit)) ≡ quantizeSays Target.Q40 (now (x .entry)) (now (out .entry)) ⌝ }
+{
+    quantize(Target::Q40, x, out)
+}
+
+// The readings as Q8_0 blocks. Refuses 6, 2 and 5, in this order.
+pub fn quantize_q8_0(x: &[f32], out: &mut [u8]) -> Outcome
+    ensures { λ r. ⌜ (outcomeSays r, now (out .exit)) ≡ quantizeSays Target.Q80 (now (x .entry)) (now (out .entry)) ⌝ }
+{
+    quantize(Target::Q80, x, out)
+}

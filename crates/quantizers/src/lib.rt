@@ -1,0 +1,7 @@
+// The block quantizers: 32 readings become a scale and 32 small integers.
+mod block;
+mod blocks;
+mod target;
+
+pub use blocks::quantize_q4_0;
+pub use blocks::quantize_q8_0;
