@@ -3,7 +3,7 @@ ghost use mathlib.Core.Path.{_≡_};
 ghost use Prim.Native.Nat.{_≤_, _<_, _*_, _^_};
 ghost use lib.Dec.{eqb};
 ghost use lib.Ieee.{binary32, round};
-ghost use Rattle.numbers.specs.Binary16.{widened, narrowed};
+ghost use Rattle.numbers.specs.Binary16.{widened, magnitude16, narrowed};
 
 // The normal binary32 with the sign bit `sign`, the exponent field `exp` and the eleven leading digits `digits`.
 fn normal(sign: u32, exp: u32, digits: u32) -> f32
@@ -49,6 +49,20 @@ pub fn f16_to_f32(half: u16) -> f32
     normal(sign, exp + 112, mant + 1024)
 }
 
+// The exponent's field and the digits of a narrowed binary32, whose exponent's field is `exp` and whose ten leading digits are `mant`.
+fn narrowed_magnitude(exp: u32, mant: u32) -> u16
+    requires { ⌜ mant < 1024 ⌝ }
+    ensures { λ r. ⌜ (r ≡ magnitude16 exp mant) × (r < 32768) ⌝ }
+{
+    if exp <= 112 {
+        return 0;
+    }
+    if exp >= 143 {
+        return 0x7C00;
+    }
+    ((exp - 112) * 1024 + mant) as u16
+}
+
 // The binary16 that quant.rs makes of a binary32: the digits that do not fit are cut, below 2^-14 is a signed zero,
 // and what is too large is an infinity, a NaN too. It works on bit patterns, since a NaN has a sign there alone.
 pub fn f32_to_f16(bits: u32) -> u16
@@ -56,12 +70,6 @@ pub fn f32_to_f16(bits: u32) -> u16
 {
     let sign = (bits / 0x8000_0000) as u16;
     let exp = bits / 0x80_0000 % 256;
-    let mant = (bits / 0x2000 % 1024) as u16;
-    if exp <= 112 {
-        return sign * 0x8000;
-    }
-    if exp >= 143 {
-        return sign * 0x8000 + 0x7C00;
-    }
-    sign * 0x8000 + ((exp - 112) as u16 * 1024 + mant)
+    let mant = bits / 0x2000 % 1024;
+    sign * 0x8000 + narrowed_magnitude(exp, mant)
 }
