@@ -1,0 +1,3 @@
+-- Laws of a row's terms, by block and by chunk.
+pub mod Rows
+pub mod Runs
