@@ -24,7 +24,7 @@ fn add_block(format: FormatK, l: [f32; 8], x: &[f32], block: &[u8]) -> [f32; 8]
     }
 }
 
-// The lanes `l` after the terms of a row's last block, of which only the first places count.
+// The lanes `l` after the terms of a row's last block, of which only the first places count. It is decoded as a whole, since the row may end inside a run.
 fn add_short(format: FormatK, l: [f32; 8], x: &[f32], block: &[u8]) -> [f32; 8]
     requires { ⌜ (length (now x) ≤ 256) × (length (now block) ≡ bytesK format) ⌝ }
     ensures { λ r. ⌜ r ≡ lanesFrom l (terms format (now (x .entry)) (now (block .entry))) (length (now (x .entry))) ⌝ }
@@ -73,7 +73,7 @@ fn all_blocks(format: FormatK, x: &[f32], w: &[u8]) -> [f32; 8]
     add_short(format, l, &x[at..], &w[from..to])
 }
 
-// The sum of chunk c of a row of n places: the products of the readings x and the weights that w packs, over the places of this chunk alone.
+// The sum of chunk c of a row of n places: the products of the readings x and the weights that w packs, over the places of this chunk alone. A chunk starts with a block.
 pub fn chunk_dot(format: FormatK, x: &[f32], w: &[u8], n: usize, c: usize) -> f32
     requires { ⌜ (n ≤ mostIn) × (n ≤ length (now x)) × (n ≤ valuesOf (Format.OfK format) (length (now w))) × (c < chunksIn n) ⌝ }
     ensures { λ r. ⌜ r ≡ chunkAt (terms format (now (x .entry)) (now (w .entry))) n c ⌝ }

@@ -33,16 +33,18 @@ pub fn fused_dot(format: FormatK, x: &[f32], w: &[u8], n: usize) -> Answer
     ensures { λ r. ⌜ saidBy r ≡ fusedSays format (now (x .entry)) (now (w .entry)) n ⌝ }
 {
     let size = layouts::block_bytes(Format::OfK(format));
+    let over = w.len() % size;
+    let weights = w.len() / size * 256;
     if n > refusals::MOST_IN {
         return Answer::Refused(refusals::TOO_LARGE);
     }
-    if w.len() % size != 0 {
+    if over != 0 {
         return Answer::Refused(refusals::NOT_WHOLE_BLOCKS);
     }
     if n == 0 {
         return Answer::Value(0.0);
     }
-    if w.len() / size * 256 < n {
+    if weights < n {
         return Answer::Refused(refusals::WEIGHTS_SHORT);
     }
     if x.len() < n {
@@ -51,6 +53,7 @@ pub fn fused_dot(format: FormatK, x: &[f32], w: &[u8], n: usize) -> Answer
     Answer::Value(row_dot(format, x, w, n))
 }
 
+// Where the Rust adds up a short row and says Ok, this refuses 3.
 pub fn canonical_dot_q4k_fused(x: &[f32], w: &[u8], n: usize) -> Answer
     ensures { λ r. ⌜ saidBy r ≡ fusedSays FormatK.Q4K (now (x .entry)) (now (w .entry)) n ⌝ }
 {

@@ -1,7 +1,7 @@
-// Q6_K: sixteen runs of 16, each with a scale of its own.
+// Q6_K: sixteen runs of 16, each with a scale of its own. Laid out and added up as Q4_K is.
+use layouts::FormatK;
 ghost use mathlib.Core.Path.{_≡_};
 ghost use lib.ListN.{length};
-use layouts::FormatK;
 ghost use Rattle.sums.specs.Lanes.{lanesFrom};
 ghost use Rattle.fused.specs.Terms.{terms, runTerms};
 

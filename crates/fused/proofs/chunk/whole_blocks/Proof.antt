@@ -1,8 +1,6 @@
 -- `chunk::whole_blocks` meets its contract: in turn b the terms of block b are added. Assumes nothing.
-use mathlib.Core.Path.{refl, _∙_}
 use Prim.Native.Nat.{_+_, _-_, _*_, _/_, _≤_}
 use lib.ListN.{length}
-use Rattle.memory.proofs.Filled.{part-length}
 use Rattle.sums.specs.Lanes.{lanes}
 use Rattle.sums.proofs.LaneLaws.{lanes-none}
 use Rattle.fused.specs.Terms.{terms}
@@ -67,11 +65,7 @@ part-add-block-end-2 : tie.Need-part-add-block-end-2 Inv-loop μ-loop
 part-add-block-end-2 c = omega (arith, room (c .before))
 
 add-block-requires : tie.Need-add-block-requires Inv-loop μ-loop
-add-block-requires c κs =
-    let d = c .before .before in
-    let b = d .before .loop .b in
-    let size = d .before .before .block-bytes in
-    (omega arith, part-length (d .before .before .before .before .before .args .w .now) (b * size .result) (size .result) (b * size .result + size .result) refl (room d) ∙ size .ensures)
+add-block-requires c κs = omega arith
 
 add-b : tie.Need-add-b Inv-loop μ-loop
 add-b c = omega arith
