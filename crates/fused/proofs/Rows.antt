@@ -16,7 +16,8 @@ use Rattle.layouts.specs.declared.format.FormatK.{FormatK}
 use Rattle.layouts.specs.declared.format.FormatK.the-variants.{Q4K, Q6K}
 use Rattle.layouts.specs.declared.format.Format.the-variants.{OfK}
 use Rattle.layouts.proofs.Rows.{weight-skip, weight-front}
-use Rattle.layouts.proofs.Sizes.{sizes, within-bytes}
+use Rattle.memory.proofs.Parts.{within-whole}
+use Rattle.layouts.proofs.Sizes.{sizes}
 use Rattle.fused.specs.Terms.{terms}
 
 -- what the whole blocks of any slice of bytes have fits
@@ -61,7 +62,7 @@ module _ (f : FormatK) where
   pub block-room : (b size n room : ℕ) → size ≡ bytesK f → n ≤ valuesOf (OfK f) room → 256 * b < n → b * size + size ≤ room
   block-room b size n room e h u =
       let k : b < room / size = rw e (omega arith) in
-      within-bytes b size room k
+      within-whole b size room k
 
   -- the k places that a row of n has from block b on have their weights in the bytes from there on
   pub rest-room : (b size n k room : ℕ) → size ≡ bytesK f → n ≤ valuesOf (OfK f) room → 256 * b + k ≤ n → (b * size ≤ room) × (k ≤ valuesOf (OfK f) (room - b * size))
