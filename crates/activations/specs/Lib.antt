@@ -1,0 +1,3 @@
+-- What an activation block is, and what the dots over it say.
+pub mod Whole
+pub mod Blocks
