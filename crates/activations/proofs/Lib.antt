@@ -1,5 +1,10 @@
 -- What several proofs of `activations` share.
-pub mod Whole
+pub mod Magnitudes
 pub mod Ranges
+pub mod Tests
 pub mod Loops
 pub mod Zeros
+pub mod Runs
+pub mod Dots
+pub mod Bounds
+pub mod Rows

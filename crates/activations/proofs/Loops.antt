@@ -15,8 +15,9 @@ use mir.Val.{SFits, hbits, toZ, ofZ}
 use mir.ValLaws.{toZ-ofZ, toZ-pos}
 use Rattle.numbers.proofs.Signed.{read-is}
 use Rattle.activations.specs.Whole.{sumℤ, Within, eqZ}
-use Rattle.activations.proofs.Whole.{within, pos-within, add-within, mul-within, fits-within, eqZ-same, eqZ-not}
+use Rattle.activations.proofs.Magnitudes.{within, pos-within, add-within, mul-within, fits-within}
 use Rattle.activations.proofs.Ranges.{sum-more}
+use Rattle.activations.proofs.Tests.{eqZ-same, eqZ-not}
 
 -- ---- the local whose bits are s holds the sum of the first k terms, each of them within B
 
@@ -73,6 +74,17 @@ module _ (w : Width) {p q x y : ℤ} {A B : ℕ} (e : p ≡ x) (f : q ≡ y) (a 
 
   pub product-made : (toZ w (ofZ w (p *ℤ q)) ≡ x *ℤ y) × Within (A * B) (toZ w (ofZ w (p *ℤ q)))
   product-made = let r = toZ-ofZ w (p *ℤ q) product-fits ∙ product-is in (r, subst (Within (A * B)) (sym r) (mul-within a b))
+
+-- ---- the sum of two locals that hold x and y
+
+module _ (w : Width) {p q x y : ℤ} {A B : ℕ} (e : p ≡ x) (f : q ≡ y) (a : Within A p) (b : Within B q) (t : T (ltb (A + B) (2 ^ hbits w))) where
+  pub sum-fits : SFits w (p +ℤ q)
+  sum-fits = fits-within (add-within a b) t
+
+  pub sum-made : (toZ w (ofZ w (p +ℤ q)) ≡ x +ℤ y) × Within (A + B) (toZ w (ofZ w (p +ℤ q)))
+  sum-made =
+      let r = toZ-ofZ w (p +ℤ q) sum-fits in
+      (r ∙ ap (λ (z : ℤ). z +ℤ q) e ∙ ap (λ (z : ℤ). x +ℤ z) f, subst (Within (A + B)) (sym r) (add-within a b))
 
 -- ---- the same bits, the same number
 

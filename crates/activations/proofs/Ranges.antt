@@ -1,16 +1,12 @@
 -- Sums over a range: one more term, how large a sum is, and how it is split, scaled, taken in runs and cut. Assumes nothing.
 use mathlib.Core.Path.{_≡_, refl, sym, ap, _∙_}
-use mathlib.Core.Bool.{Bool, true, false, cond}
-use mathlib.Core.Logic.{⊎-elim}
 use Prim.Native.Nat.{ℕ, zero, suc, _+_, _*_, _-_, _≤_, _<_}
-use native.Mathlib.Nat.{add-zero, add-suc, mul-zero, mul-suc, suc-mul, not-suc-le-zero, eq-or-lt-of-le, le-of-suc-le-suc}
+use native.Mathlib.Nat.{add-zero, add-suc, mul-zero, mul-suc, suc-mul}
 use native.Mathlib.Numerals.{add-one}
 use native.Mathlib.Omega.{arith}
-use borrow.Author.Tests.{lt-ltb, le-ltb}
-use lib.Dec.{ltb}
 use lib.IntN.{ℤ, pos, _+ℤ_, _*ℤ_, +ℤ-assoc, +ℤ-comm, +ℤ-idr, *ℤ-zero}
-use Rattle.activations.specs.Whole.{sumℤ, Within, every}
-use Rattle.activations.proofs.Whole.{pos-within, add-within, *ℤ-+ℤ}
+use Rattle.activations.specs.Whole.{sumℤ, Within}
+use Rattle.activations.proofs.Magnitudes.{pos-within, add-within, *ℤ-+ℤ}
 
 pub sum-more : (f : ℕ → ℤ) (k : ℕ) → sumℤ f (k + 1) ≡ sumℤ f k +ℤ f k
 unfolding sumℤ
@@ -75,31 +71,3 @@ sum-cut f n N h e =
     ∙ sum-split f n (N - n)
     ∙ ap (λ x. sumℤ f n +ℤ x) (sum-zero (λ i. f (n + i)) (N - n) (λ i p. e (n + i) (omega arith) (omega arith)))
     ∙ +ℤ-idr (sumℤ f n)
-
--- ---- what holds at every place
-
-pub every-none : (p : ℕ → Bool) → every p 0 ≡ true
-unfolding every
-every-none p = refl
-
-pub every-more : (p : ℕ → Bool) (k : ℕ) → every p k ≡ true → p k ≡ true → every p (k + 1) ≡ true
-unfolding every
-every-more p k h g = rw (add-one, h, g)
-
-pub every-all : (p : ℕ → Bool) (k : ℕ) → ((j : ℕ) → j < k → p j ≡ true) → every p k ≡ true
-unfolding every
-every-all p zero h = refl
-every-all p (suc k) h = rw (every-all p k (λ j q. h j (omega arith)), h k (omega arith))
-
-cond-false : (t : Bool) → cond t false false ≡ false
-cond-false true = refl
-cond-false false = refl
-
-pub every-not : (p : ℕ → Bool) (k j : ℕ) → j < k → p j ≡ false → every p k ≡ false
-unfolding every
-every-not p zero j h e = absurd (not-suc-le-zero h)
-every-not p (suc k) j h e =
-    ⊎-elim
-    (λ g. let e′ : p k ≡ false = ap p (sym g) ∙ e in rw e′ (cond-false (every p k)))
-    (λ g. rw (every-not p k j g e))
-    (eq-or-lt-of-le (le-of-suc-le-suc h))

@@ -5,7 +5,7 @@ use native.Mathlib.Omega.{arith}
 use mir.Syntax.{w8, w16}
 use Rattle.numbers.proofs.Signed.{read-is}
 use Rattle.activations.specs.Whole.{elem}
-use Rattle.activations.proofs.Whole.{fits-within, within-width}
+use Rattle.activations.proofs.Magnitudes.{fits-within, within-width}
 use Rattle.activations.proofs.Loops.{Acc, acc-none, acc-fits, acc-more, acc-all, wide-is}
 use Rattle.activations.proofs.block.sum_of_32.Statement.{statement}
 use Rattle.activations.proofs.block.sum_of_32.Tie as tie

@@ -9,7 +9,8 @@ use lib.IntN.{ℤ, natAbs}
 use mir.Syntax.{w16, w32}
 use Rattle.numbers.proofs.Signed.{read-is}
 use Rattle.activations.specs.Whole.{elem, eqZ, Within}
-use Rattle.activations.proofs.Whole.{fits-within, eqZ-not}
+use Rattle.activations.proofs.Magnitudes.{fits-within}
+use Rattle.activations.proofs.Tests.{eqZ-not}
 use Rattle.activations.proofs.Loops.{bits-same}
 use Rattle.activations.proofs.block.sum_right.Statement.{statement}
 use Rattle.activations.proofs.block.sum_right.Tie as tie

@@ -6,7 +6,7 @@ use mir.Syntax.{w16, w32}
 use Rattle.memory.proofs.Filled.{Filling, filling-start, filling-more, filling-done}
 use Rattle.numbers.proofs.Signed.{read-is}
 use Rattle.activations.specs.Blocks.{sumOf32}
-use Rattle.activations.proofs.Whole.{fits-within}
+use Rattle.activations.proofs.Magnitudes.{fits-within}
 use Rattle.activations.proofs.Loops.{wide-is}
 use Rattle.activations.proofs.block.sums_of.Statement.{statement}
 use Rattle.activations.proofs.block.sums_of.Tie as tie

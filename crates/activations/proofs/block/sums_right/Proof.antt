@@ -1,12 +1,12 @@
 -- `block::sums_right` meets its contract: every sum passed is right. Assumes nothing.
-use mathlib.Core.Path.{_≡_, refl, sym, _∙_}
-use mathlib.Core.Bool.{Bool, true, false, not, false≢true}
+use mathlib.Core.Path.{_≡_, sym, _∙_}
+use mathlib.Core.Bool.{true, false≢true}
 use Prim.Native.Nat.{ℕ, _-_, _≤_, _<_}
 use native.Mathlib.Omega.{arith}
 use borrow.Author.Count.{below-none, below-more}
 use Rattle.activations.specs.Whole.{elem, every, Within}
 use Rattle.activations.specs.Blocks.{rightAt, sumsRight}
-use Rattle.activations.proofs.Ranges.{every-none, every-more, every-not}
+use Rattle.activations.proofs.Tests.{every-none, every-more, every-not, was-false, was-true}
 use Rattle.activations.proofs.block.sums_right.Statement.{statement}
 use Rattle.activations.proofs.block.sums_right.Tie as tie
 
@@ -15,15 +15,6 @@ Inv-loop block j₀ j = (j ≤ 8) × (every (rightAt block) j ≡ true) × ((k :
 
 abbrev μ-loop : tie.MeasureT-loop
 μ-loop block j₀ j = 8 - j
-
--- what the turned test says of the test
-was-false : (t : Bool) → not t ≡ true → t ≡ false
-was-false true e = sym e
-was-false false e = refl
-
-was-true : (t : Bool) → not t ≡ false → t ≡ true
-was-true true e = refl
-was-true false e = sym e
 
 loop-holds : tie.Need-loop-holds Inv-loop μ-loop
 loop-holds c = (omega arith, every-none _, below-none _)

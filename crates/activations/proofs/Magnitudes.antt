@@ -1,16 +1,15 @@
--- Laws of whole numbers: the magnitude of a sum and of a product, when a width holds a number, that a product goes over a sum, and tests of sameness. Assumes nothing.
-use mathlib.Core.Path.{_≡_, refl, sym, ap, _∙_, subst}
+-- Laws of whole numbers: the magnitude of a sum and of a product, when a width holds a number, and that a product goes over a sum. Assumes nothing.
+use mathlib.Core.Path.{_≡_, refl, sym, ap, _∙_}
 use mathlib.Core.Bool.{Bool, true, false, not, cond}
 use Prim.Native.Nat.{ℕ, zero, suc, _+_, _*_, _-_, _^_, _≤_, _<_}
 use native.Mathlib.Nat.{le-trans, lt-of-le-of-lt, mul-le-mul}
 use native.Mathlib.Omega.{arith}
-use borrow.Author.Tests.{eq-eqb, eqb-true}
 use lib.Dec.{T, ltb, ltb→lt, nltb→le}
 use lib.IntN.{ℤ, pos, negsuc, sucℤ, predℤ, negℤ, natAbs, subℕ, _+ℤ_, _-ℤ_, _*ℤ_, +ℤ-assoc, +ℤ-comm, +ℤ-idl, *ℤ-comm, zero-*ℤ, sucℤ-+ℤ, predℤ-+ℤ, sucℤ-*ℤ, predℤ-*ℤ}
 use lib.Signed.{mag, natAbs-le}
 use mir.Syntax.{Width}
 use mir.Val.{SFits, hbits}
-use Rattle.activations.specs.Whole.{Within, eqZ}
+use Rattle.activations.specs.Whole.{Within}
 
 -- ---- magnitudes
 
@@ -89,22 +88,3 @@ over-neg (suc n) b c = down (negsuc n) b c (over-neg n b c)
 
 pub *ℤ-+ℤ : (a b c : ℤ) → a *ℤ (b +ℤ c) ≡ a *ℤ b +ℤ a *ℤ c
 *ℤ-+ℤ a b c = *ℤ-comm a (b +ℤ c) ∙ +ℤ-*ℤ b c a ∙ ap (λ x. x +ℤ c *ℤ a) (*ℤ-comm b a) ∙ ap (λ x. a *ℤ b +ℤ x) (*ℤ-comm c a)
-
--- ---- tests of sameness
-
-pub eqZ-same : (a : ℤ) → eqZ a a ≡ true
-eqZ-same (pos a) = eq-eqb a a refl
-eqZ-same (negsuc a) = eq-eqb a a refl
-
-pub eqZ-true : (a b : ℤ) → eqZ a b ≡ true → a ≡ b
-eqZ-true (pos a) (pos b) h = ap pos (eqb-true a b h)
-eqZ-true (pos a) (negsuc b) h = cc
-eqZ-true (negsuc a) (pos b) h = cc
-eqZ-true (negsuc a) (negsuc b) h = ap negsuc (eqb-true a b h)
-
-pub eqZ-not : (a b : ℤ) → (a ≡ b → ⊥) → eqZ a b ≡ false
-eqZ-not a b h = by (eqZ a b) (λ e. h (eqZ-true a b e))
-  where
-    by : (t : Bool) → (t ≡ true → ⊥) → t ≡ false
-    by true h = absurd (h refl)
-    by false h = refl
