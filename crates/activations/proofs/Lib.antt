@@ -8,3 +8,5 @@ pub mod Runs
 pub mod Dots
 pub mod Bounds
 pub mod Rows
+pub mod Unique
+pub mod Card
