@@ -11,7 +11,7 @@ use lib.ListN.{getD}
 use Rattle.memory.specs.Lists.{table}
 use Rattle.memory.proofs.Filled.{getD-table}
 use Rattle.numbers.specs.Fields.{signed}
-use Rattle.layouts.specs.K.{quantQ4K, scaleQ4K, quantQ6K, scaleQ6K, quantK, scaleK}
+use Rattle.layouts.specs.K.{quantQ4K, scaleQ4K, quantQ6K, quantK, scaleK}
 use Rattle.layouts.specs.declared.format.FormatK.{FormatK}
 use Rattle.layouts.specs.declared.format.FormatK.the-variants.{Q4K, Q6K}
 use Rattle.layouts.proofs.Scales.{scale-run}

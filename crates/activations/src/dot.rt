@@ -14,6 +14,11 @@ ghost use Rattle.numbers.specs.Fields.{le16};
 ghost use Rattle.activations.specs.Blocks.{SmallSums};
 ghost use Rattle.activations.specs.Dots.{blockDot, dotQ4kSays, dotQ6kSays};
 
+// The bytes of a Q4_K block.
+pub(crate) const Q4K_BYTES: usize = 144;
+// The bytes of a Q6_K block.
+const Q6K_BYTES: usize = 210;
+
 // The f16 field at i.
 fn half_at(w: &[u8], i: usize) -> f32
     requires { ⌜ i + 1 < length (now w) ⌝ }
@@ -43,6 +48,7 @@ pub fn block_dot_q6k(w: &[u8], xq: Q8Block, n: usize) -> f32
     half_at(w, 208) * xq.d * b
 }
 
+// n, and above 256 as 256.
 fn at_most_256(n: usize) -> usize
     ensures { λ r. ⌜ r ≡ min n 256 ⌝ }
 {
@@ -53,21 +59,21 @@ fn at_most_256(n: usize) -> usize
 pub fn dot_q4k_q8_block(w: &[u8], xq: Q8Block, n: usize) -> Answer
     ensures { λ r. ⌜ saidBy r ≡ dotQ4kSays (now (w .entry)) xq n ⌝ }
 {
-    if w.len() < 144 {
+    if w.len() < Q4K_BYTES {
         return Answer::Refused(refusals::WEIGHTS_SHORT);
     }
     if !sums_right(xq) {
         return Answer::Refused(refusals::WRONG_SUMS);
     }
-    Answer::Value(block_dot_q4k(&w[..144], xq, at_most_256(n)))
+    Answer::Value(block_dot_q4k(&w[..Q4K_BYTES], xq, at_most_256(n)))
 }
 
 // The dot of a Q6_K block and an activation block, n above 256 taken as 256. Refuses 3.
 pub fn dot_q6k_q8_block(w: &[u8], xq: Q8Block, n: usize) -> Answer
     ensures { λ r. ⌜ saidBy r ≡ dotQ6kSays (now (w .entry)) xq n ⌝ }
 {
-    if w.len() < 210 {
+    if w.len() < Q6K_BYTES {
         return Answer::Refused(refusals::WEIGHTS_SHORT);
     }
-    Answer::Value(block_dot_q6k(&w[..210], xq, at_most_256(n)))
+    Answer::Value(block_dot_q6k(&w[..Q6K_BYTES], xq, at_most_256(n)))
 }

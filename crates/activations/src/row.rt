@@ -1,5 +1,6 @@
 // The dot of a row of packed blocks and readings, in whole numbers block by block.
 use crate::block::quantized_block;
+use crate::dot::Q4K_BYTES;
 use crate::dot::block_dot_q4k;
 use refusals::Answer;
 ghost use mathlib.Core.Path.{_≡_};
@@ -13,7 +14,7 @@ ghost use Rattle.activations.specs.Rows.{blocksIn, blockLength, rowDot, 
 const MOST_BLOCKS: usize = 512;
 
 // How many blocks n places make: 512 at most.
-pub fn blocks_in(n: usize) -> usize
+fn blocks_in(n: usize) -> usize
     requires { ⌜ n ≤ mostIn ⌝ }
     ensures { λ r. ⌜ r ≡ blocksIn n ⌝ }
 {
@@ -40,8 +41,8 @@ fn row_dot(x: &[f32], w: &[u8], n: usize) -> f32
     while b < blocks {
         let s = 256 * b;
         let e = block_end(n, b);
-        let from = b * 144;
-        let to = from + 144;
+        let from = b * Q4K_BYTES;
+        let to = from + Q4K_BYTES;
         parts[b] = block_dot_q4k(&w[from..to], quantized_block(&x[s..e]), e - s);
         b += 1;
     }
@@ -55,13 +56,13 @@ pub fn integer_dot_q4k(x: &[f32], w: &[u8], n: usize) -> Answer
     if n > refusals::MOST_IN {
         return Answer::Refused(refusals::TOO_LARGE);
     }
-    if w.len() % 144 != 0 {
+    if w.len() % Q4K_BYTES != 0 {
         return Answer::Refused(refusals::NOT_WHOLE_BLOCKS);
     }
     if n == 0 {
         return Answer::Value(0.0);
     }
-    if w.len() < blocks_in(n) * 144 {
+    if w.len() < blocks_in(n) * Q4K_BYTES {
         return Answer::Refused(refusals::WEIGHTS_SHORT);
     }
     if x.len() < n {

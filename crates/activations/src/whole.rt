@@ -1,5 +1,6 @@
 // The whole-number sums of a block dot: scale times quant times activation quant over the places below n, and the minimums times the sums.
-// Both formats go run by run: a run has one scale, so its quants' products are summed first. i32 holds every sum, whatever the bytes are.
+// Both formats go run by run: a run has one scale, so its quants' products are summed first. i32 holds every sum, whatever the bytes are:
+// a run is at most 32 x 255 x 128 = 1,044,480 in size, and 16 runs, each times a signed byte, stay below 2^31.
 use layouts::FormatK;
 ghost use mathlib.Core.Path.{_≡_};
 ghost use Prim.Native.Nat.{ℕ, _+_, _*_, _≤_, _<_};
@@ -87,6 +88,7 @@ fn whole_q6k(w: &[u8], x: &[i8; 256]) -> i32
     a
 }
 
+// All places, each format its own way.
 fn whole_block(format: FormatK, w: &[u8], x: &[i8; 256]) -> i32
     requires { ⌜ length (now w) ≡ bytesK format ⌝ }
     ensures { λ r. ⌜ r ≡ wholeSum format (now (w .entry)) (now (x .entry)) 256 ⌝ }

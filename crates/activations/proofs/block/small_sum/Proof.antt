@@ -1,18 +1,16 @@
 -- `block::small_sum` meets its contract: by the sign of s. Assumes nothing.
-use mathlib.Core.Path.{_≡_, refl, sym, _∙_}
-use mathlib.Core.Bool.{Bool, true, false}
-use Prim.Native.Nat.{ℕ, suc, _≤_, _<_}
+use mathlib.Core.Path.{_≡_, refl, sym}
+use mathlib.Core.Bool.{true, false}
+use Prim.Native.Nat.{suc}
 use native.Mathlib.Omega.{arith}
 use borrow.Author.Tests.{ltb-true, ltb-false, le-leb, lt-leb}
-use lib.Dec.{leb, ltb}
+use lib.Dec.{leb}
 use lib.IntN.{ℤ, pos, negsuc, natAbs}
 use lib.Signed.{ltZ, leZ}
 use mir.Syntax.{w32}
 use Rattle.numbers.proofs.Signed.{read-is}
 use Rattle.activations.proofs.block.small_sum.Statement.{statement}
 use Rattle.activations.proofs.block.small_sum.Tie as tie
-use Rattle.activations.proofs.block.small_sum.Reads as reads
-use Rattle.activations.proofs.block.small_sum.Lts as lts
 
 below : (z : ℤ) → ltZ z (negsuc 4095) ≡ true → false ≡ leb (natAbs z) 4096
 below (pos n) h = cc

@@ -1,6 +1,5 @@
 -- `block::sum_of_32` meets its contract: 32 quants, each within 128. Assumes nothing.
 use Prim.Native.Nat.{ℕ, _+_, _-_, _≤_}
-use mathlib.Core.Path.{_≡_}
 use native.Mathlib.Omega.{arith}
 use mir.Syntax.{w8, w16}
 use Rattle.numbers.proofs.Signed.{read-is}

@@ -1,6 +1,6 @@
 -- `block::sums_of` meets its contract. Assumes nothing.
-use mathlib.Core.Path.{_≡_, refl, _∙_}
-use Prim.Native.Nat.{_-_, _≤_}
+use mathlib.Core.Path.{refl, _∙_}
+use Prim.Native.Nat.{_-_}
 use native.Mathlib.Omega.{arith}
 use mir.Syntax.{w16, w32}
 use Rattle.memory.proofs.Filled.{Filling, filling-start, filling-more, filling-done}

@@ -3,7 +3,6 @@ use Prim.Native.Nat.{ℕ, _^_, _<_}
 use mathlib.Core.Path.{_≡_}
 use native.Mathlib.Omega.{arith}
 use borrow.Author.Needs.{needs}
-use lib.Dec.{lit<}
 use lib.IntN.{ℤ, pos, _*ℤ_}
 use lib.Signed.{mag}
 use mir.Syntax.{w8, w32}
