@@ -17,10 +17,13 @@
  *
  * NaN. Every other result has the bits that its contract says. Where a result is a NaN, the bits
  * may be those of any NaN.
+ *
+ * Stack. A call needs at most 512 bytes of stack, unless the words beside it say more.
  */
 #ifndef JAMBHARROW_H
 #define JAMBHARROW_H
 
+#include <stddef.h>
 #include <stdint.h>
 
 #ifdef __cplusplus
@@ -84,6 +87,69 @@ float jambharrow_f16_to_f32(uint16_t half);
  * there a NaN has a sign. Digits that do not fit are cut, a magnitude below 2^-14 becomes a signed
  * zero, and one too large an infinity of that sign; so does a NaN. */
 uint16_t jambharrow_f32_to_f16(uint32_t bits);
+
+/* Block decoders: packed blocks become floats.
+ *
+ * Each writes every value of its blocks, in order, at the front of `out`, and keeps the places
+ * behind them. It refuses, in this order, with
+ *   JAMBHARROW_TOO_LARGE          more than JAMBHARROW_MOST_BYTES bytes;
+ *   JAMBHARROW_NOT_WHOLE_BLOCKS   bytes that are not whole blocks;
+ *   JAMBHARROW_ROOM_SHORT         fewer places in `out` than the blocks have values.
+ * s, d and dmin are the block's scales, each a binary16 widened by jambharrow_f16_to_f32. */
+
+/* Q4_0: a block is 18 bytes, s and 16 bytes of nibbles, and has 32 values, s * (nibble - 8). */
+uint32_t jambharrow_dequantize_q4_0(const uint8_t *bytes, size_t bytes_len,
+                                    float *out, size_t out_len);
+
+/* Q5_0: a block is 22 bytes, s, 32 high bits and 16 bytes of nibbles, and has 32 values,
+ * s * (high bit and nibble - 16). */
+uint32_t jambharrow_dequantize_q5_0(const uint8_t *bytes, size_t bytes_len,
+                                    float *out, size_t out_len);
+
+/* Q8_0: a block is 34 bytes, s and 32 signed bytes, and has 32 values, s * byte. */
+uint32_t jambharrow_dequantize_q8_0(const uint8_t *bytes, size_t bytes_len,
+                                    float *out, size_t out_len);
+
+/* Q4_K: a block is 144 bytes, d, dmin, eight scales and minimums of six bits and 128 bytes of
+ * nibbles, and has 256 values, (d * scale) * nibble - (dmin * minimum). */
+uint32_t jambharrow_dequantize_q4_k(const uint8_t *bytes, size_t bytes_len,
+                                    float *out, size_t out_len);
+
+/* Q6_K: a block is 210 bytes, 256 quants of six bits, 16 signed scales and d, and has 256 values,
+ * (d * scale) * (quant - 32). */
+uint32_t jambharrow_dequantize_q6_k(const uint8_t *bytes, size_t bytes_len,
+                                    float *out, size_t out_len);
+
+/* Fixed-order sums: each adds in one order, so that a result has one set of bits.
+ *
+ * A chunk has eight lanes, which start at +0.0; its term i is added to lane i mod 8, i rising. The
+ * lanes meet in a pairwise tree: neighbours are added, an odd last one moves up, until one is left;
+ * an empty tree is +0.0. A row is cut into chunks of 8,192 terms, whose sums meet in the same
+ * tree. */
+
+/* The dot of all of x and the front of w, as one chunk. Weights behind it are not looked at. It
+ * refuses, in this order, with
+ *   JAMBHARROW_TOO_LARGE       more than JAMBHARROW_MOST_FLOATS readings;
+ *   JAMBHARROW_WEIGHTS_SHORT   fewer weights than readings. */
+uint32_t jambharrow_canonical_chunk(const float *x, size_t x_len, const float *w, size_t w_len,
+                                    float *value);
+
+/* The tree over a slice of any length, worked in the slice: each round fills the front half and
+ * leaves the places behind it as they are. It never refuses. */
+float jambharrow_canonical_combine(float *part, size_t part_len);
+
+/* The dot of the first n readings and weights, as a row; what stands behind them is not looked at.
+ * It refuses with JAMBHARROW_TOO_LARGE where n is over JAMBHARROW_MOST_IN; then n = 0 is answered
+ * with +0.0; then it refuses, in this order, with
+ *   JAMBHARROW_WEIGHTS_SHORT    fewer than n weights;
+ *   JAMBHARROW_READINGS_SHORT   fewer than n readings. */
+uint32_t jambharrow_canonical_dot_pub(const float *x, size_t x_len, const float *w, size_t w_len,
+                                      size_t n, float *value);
+
+/* The sum of the first n readings, as a row; what stands behind them is not looked at. It refuses
+ * with JAMBHARROW_TOO_LARGE where n is over JAMBHARROW_MOST_IN; then n = 0 is answered with +0.0;
+ * then it refuses with JAMBHARROW_READINGS_SHORT where there are fewer than n readings. */
+uint32_t jambharrow_canonical_sum_pub(const float *x, size_t x_len, size_t n, float *value);
 
 #ifdef __cplusplus
 }

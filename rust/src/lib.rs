@@ -2,15 +2,24 @@
 //! that is proved to meet its contracts; these functions are the safe way to it from Rust. They
 //! need no set-up, keep nothing between calls and take no memory from the heap.
 //!
-//! A function has the name and the parameters of the one of quant.rs that it answers for. Where a
-//! result is a NaN, its bits may be those of any NaN; every other result has the bits of quant.rs,
-//! within the sizes below.
+//! A function has the name and the parameters of the one of quant.rs that it answers for; where
+//! that returns a vector, it fills memory that is lent to it, and where it can refuse, it says why.
+//! Where a result is a NaN, its bits may be those of any NaN; every other result has the bits of
+//! quant.rs, within the sizes below.
 
 mod binary16;
+mod block_decoders;
+mod fixed_order_sums;
 mod refusal;
 mod sys;
 
 pub use binary16::{f16_to_f32, f32_to_f16};
+pub use block_decoders::{
+    dequantize_q4_0, dequantize_q4_k, dequantize_q5_0, dequantize_q6_k, dequantize_q8_0,
+};
+pub use fixed_order_sums::{
+    canonical_chunk, canonical_combine, canonical_dot_pub, canonical_sum_pub,
+};
 pub use refusal::Refusal;
 
 /// n and in_feat at most.

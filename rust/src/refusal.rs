@@ -68,6 +68,23 @@ impl Refusal {
     }
 }
 
+/// What a call says that fills lent memory, by the number it returns.
+#[inline]
+pub(crate) fn done(number: u32) -> Result<(), Refusal> {
+    if number == 0 {
+        return Ok(());
+    }
+    Err(Refusal::of(number).expect("a call says no by a number of the table"))
+}
+
+/// What a call says that stores a value through the pointer it is given, by the number it returns.
+#[inline]
+pub(crate) fn answer(call: impl FnOnce(&mut f32) -> u32) -> Result<f32, Refusal> {
+    let mut value = 0.0;
+    done(call(&mut value))?;
+    Ok(value)
+}
+
 impl fmt::Display for Refusal {
     fn fmt(&self, to: &mut fmt::Formatter<'_>) -> fmt::Result {
         to.write_str(match self {

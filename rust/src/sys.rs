@@ -2,7 +2,64 @@
 //! is safe to call as it stands; one that takes a pointer is called by the safe function over it
 //! alone.
 
+/// A block decoder.
+pub type Decoder = unsafe extern "C" fn(*const u8, usize, *mut f32, usize) -> u32;
+
 unsafe extern "C" {
     pub safe fn jambharrow_f16_to_f32(half: u16) -> f32;
     pub safe fn jambharrow_f32_to_f16(bits: u32) -> u16;
+
+    pub fn jambharrow_dequantize_q4_0(
+        bytes: *const u8,
+        bytes_len: usize,
+        out: *mut f32,
+        out_len: usize,
+    ) -> u32;
+    pub fn jambharrow_dequantize_q5_0(
+        bytes: *const u8,
+        bytes_len: usize,
+        out: *mut f32,
+        out_len: usize,
+    ) -> u32;
+    pub fn jambharrow_dequantize_q8_0(
+        bytes: *const u8,
+        bytes_len: usize,
+        out: *mut f32,
+        out_len: usize,
+    ) -> u32;
+    pub fn jambharrow_dequantize_q4_k(
+        bytes: *const u8,
+        bytes_len: usize,
+        out: *mut f32,
+        out_len: usize,
+    ) -> u32;
+    pub fn jambharrow_dequantize_q6_k(
+        bytes: *const u8,
+        bytes_len: usize,
+        out: *mut f32,
+        out_len: usize,
+    ) -> u32;
+
+    pub fn jambharrow_canonical_chunk(
+        x: *const f32,
+        x_len: usize,
+        w: *const f32,
+        w_len: usize,
+        value: *mut f32,
+    ) -> u32;
+    pub fn jambharrow_canonical_combine(part: *mut f32, part_len: usize) -> f32;
+    pub fn jambharrow_canonical_dot_pub(
+        x: *const f32,
+        x_len: usize,
+        w: *const f32,
+        w_len: usize,
+        n: usize,
+        value: *mut f32,
+    ) -> u32;
+    pub fn jambharrow_canonical_sum_pub(
+        x: *const f32,
+        x_len: usize,
+        n: usize,
+        value: *mut f32,
+    ) -> u32;
 }

@@ -1,17 +1,5 @@
-// The C functions of the static library: each calls the public function of its name and lays the answer out as include/jambharrow.h says.
-ghost use mathlib.Core.Path.{_≡_};
-ghost use Rattle.numbers.specs.Binary16.{widened, narrowed};
-
-#[no_mangle]
-pub extern "C" fn jambharrow_f16_to_f32(half: u16) -> f32
-    ensures { λ r. ⌜ r ≡ widened half ⌝ }
-{
-    numbers::f16_to_f32(half)
-}
-
-#[no_mangle]
-pub extern "C" fn jambharrow_f32_to_f16(bits: u32) -> u16
-    ensures { λ r. ⌜ r ≡ narrowed bits ⌝ }
-{
-    numbers::f32_to_f16(bits)
-}
+// The C functions of the static library, a module for each family of calls: each calls the public function of its name and lays the answer out as include/jambharrow.h says.
+mod answers;
+mod binary16;
+mod block_decoders;
+mod fixed_order_sums;

@@ -1,0 +1,3 @@
+-- What the proofs of `exports` share, and one answer for each call.
+pub mod Handed
+pub mod Unique

@@ -1,0 +1,112 @@
+//! Block decoders: packed blocks become floats.
+use crate::refusal::{done, Refusal};
+use crate::sys::{self, Decoder};
+
+#[inline]
+fn decode(decoder: Decoder, bytes: &[u8], out: &mut [f32]) -> Result<(), Refusal> {
+    // SAFETY: each pointer and length is a slice's, and what is written is lent to this call alone.
+    done(unsafe { decoder(bytes.as_ptr(), bytes.len(), out.as_mut_ptr(), out.len()) })
+}
+
+/// Writes every value of the Q4_0 blocks, 18 bytes to 32 values, in order at the front of `out`,
+/// and keeps the places behind them. It refuses, in this order, as [`Refusal::TooLarge`] more than
+/// [`MOST_BYTES`](crate::MOST_BYTES) bytes, as [`Refusal::NotWholeBlocks`] bytes that are not whole
+/// blocks, and as [`Refusal::RoomShort`] an `out` of fewer places than the blocks have values.
+#[inline]
+pub fn dequantize_q4_0(bytes: &[u8], out: &mut [f32]) -> Result<(), Refusal> {
+    decode(sys::jambharrow_dequantize_q4_0, bytes, out)
+}
+
+/// Does with Q5_0 blocks, 22 bytes to 32 values, what [`dequantize_q4_0`] does with its own.
+#[inline]
+pub fn dequantize_q5_0(bytes: &[u8], out: &mut [f32]) -> Result<(), Refusal> {
+    decode(sys::jambharrow_dequantize_q5_0, bytes, out)
+}
+
+/// Does with Q8_0 blocks, 34 bytes to 32 values, what [`dequantize_q4_0`] does with its own.
+#[inline]
+pub fn dequantize_q8_0(bytes: &[u8], out: &mut [f32]) -> Result<(), Refusal> {
+    decode(sys::jambharrow_dequantize_q8_0, bytes, out)
+}
+
+/// Does with Q4_K blocks, 144 bytes to 256 values, what [`dequantize_q4_0`] does with its own.
+#[inline]
+pub fn dequantize_q4_k(bytes: &[u8], out: &mut [f32]) -> Result<(), Refusal> {
+    decode(sys::jambharrow_dequantize_q4_k, bytes, out)
+}
+
+/// Does with Q6_K blocks, 210 bytes to 256 values, what [`dequantize_q4_0`] does with its own.
+#[inline]
+pub fn dequantize_q6_k(bytes: &[u8], out: &mut [f32]) -> Result<(), Refusal> {
+    decode(sys::jambharrow_dequantize_q6_k, bytes, out)
+}
+
+#[cfg(test)]
+mod tests {
+    use super::*;
+    use crate::MOST_BYTES;
+
+    #[test]
+    fn a_block_of_32_values() {
+        let mut q4_0 = [0; 18];
+        q4_0[..4].copy_from_slice(&[0x00, 0x40, 0x0F, 0x80]);
+        let mut out = [0.0; 32];
+        assert_eq!(dequantize_q4_0(&q4_0, &mut out), Ok(()));
+        assert_eq!(out[..5], [14.0, -16.0, -16.0, 0.0, -16.0]);
+
+        let mut q5_0 = [0; 22];
+        q5_0[..7].copy_from_slice(&[0x00, 0x3C, 0x01, 0x00, 0x01, 0x00, 0x32]);
+        assert_eq!(dequantize_q5_0(&q5_0, &mut out), Ok(()));
+        assert_eq!([out[0], out[1], out[16], out[17]], [2.0, -16.0, 3.0, -16.0]);
+
+        let mut q8_0 = [0; 34];
+        q8_0[..4].copy_from_slice(&[0x00, 0xC0, 0x80, 0x7F]);
+        assert_eq!(dequantize_q8_0(&q8_0, &mut out), Ok(()));
+        assert_eq!(out[..3], [256.0, -254.0, -0.0]);
+    }
+
+    #[test]
+    fn a_block_of_256_values() {
+        let mut out = [0.0; 256];
+        let mut q4_k = [0; 144];
+        // d and dmin 1; the first scale 3, the first minimum 5; the first byte of nibbles 0xA2.
+        q4_k[..5].copy_from_slice(&[0x00, 0x3C, 0x00, 0x3C, 3]);
+        q4_k[8] = 5;
+        q4_k[16] = 0xA2;
+        assert_eq!(dequantize_q4_k(&q4_k, &mut out), Ok(()));
+        assert_eq!([out[0], out[1], out[32]], [1.0, -5.0, 0.0]);
+
+        let mut q6_k = [0; 210];
+        // The first quant 33 of 64, the first scale -2, d 1.
+        q6_k[0] = 0x01;
+        q6_k[128] = 0x02;
+        q6_k[192] = 0xFE;
+        q6_k[209] = 0x3C;
+        assert_eq!(dequantize_q6_k(&q6_k, &mut out), Ok(()));
+        assert_eq!([out[0], out[1]], [-2.0, 64.0]);
+    }
+
+    #[test]
+    fn surplus_places_are_kept() {
+        let mut out = [7.0; 34];
+        assert_eq!(dequantize_q8_0(&[0; 34], &mut out), Ok(()));
+        assert_eq!(out[31..], [0.0, 7.0, 7.0]);
+        assert_eq!(dequantize_q8_0(&[], &mut out), Ok(()));
+        assert_eq!(out[0], 0.0);
+    }
+
+    #[test]
+    fn refusals_come_in_their_order_and_keep_the_output() {
+        let mut out = [7.0; 31];
+        assert_eq!(
+            dequantize_q4_0(&vec![0; MOST_BYTES + 1], &mut out),
+            Err(Refusal::TooLarge)
+        );
+        assert_eq!(
+            dequantize_q4_0(&[0; 19], &mut out),
+            Err(Refusal::NotWholeBlocks)
+        );
+        assert_eq!(dequantize_q4_0(&[0; 18], &mut out), Err(Refusal::RoomShort));
+        assert_eq!(out, [7.0; 31]);
+    }
+}
