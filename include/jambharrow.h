@@ -120,6 +120,23 @@ uint32_t jambharrow_dequantize_q4_k(const uint8_t *bytes, size_t bytes_len,
 uint32_t jambharrow_dequantize_q6_k(const uint8_t *bytes, size_t bytes_len,
                                     float *out, size_t out_len);
 
+/* Block quantizers: 32 readings become a scale and 32 small integers.
+ *
+ * Each writes the bytes of every block, in order, at the front of `out`, and keeps the places
+ * behind them. The scale is stored by jambharrow_f32_to_f16, and readings are brought to integers
+ * by the inverse of the scale before it is stored. It refuses, in this order, with
+ *   JAMBHARROW_TOO_LARGE        more than JAMBHARROW_MOST_FLOATS readings;
+ *   JAMBHARROW_NOT_A_MULTIPLE   a count of readings that is not a multiple of 32;
+ *   JAMBHARROW_ROOM_SHORT       fewer places in `out` than the blocks have bytes. */
+
+/* Q4_0: 18 bytes to 32 readings. The scale is the first reading of largest magnitude over -8. */
+uint32_t jambharrow_quantize_q4_0(const float *data, size_t data_len,
+                                  uint8_t *out, size_t out_len);
+
+/* Q8_0: 34 bytes to 32 readings. The scale is the largest magnitude over 127. */
+uint32_t jambharrow_quantize_q8_0(const float *data, size_t data_len,
+                                  uint8_t *out, size_t out_len);
+
 /* Fixed-order sums: each adds in one order, so that a result has one set of bits.
  *
  * A chunk has eight lanes, which start at +0.0; its term i is added to lane i mod 8, i rising. The

@@ -9,6 +9,7 @@
 
 mod binary16;
 mod block_decoders;
+mod block_quantizers;
 mod fixed_order_sums;
 mod refusal;
 mod sys;
@@ -17,6 +18,7 @@ pub use binary16::{f16_to_f32, f32_to_f16};
 pub use block_decoders::{
     dequantize_q4_0, dequantize_q4_k, dequantize_q5_0, dequantize_q6_k, dequantize_q8_0,
 };
+pub use block_quantizers::{quantize_q4_0, quantize_q8_0};
 pub use fixed_order_sums::{
     canonical_chunk, canonical_combine, canonical_dot_pub, canonical_sum_pub,
 };

@@ -5,6 +5,9 @@
 /// A block decoder.
 pub type Decoder = unsafe extern "C" fn(*const u8, usize, *mut f32, usize) -> u32;
 
+/// A block quantizer.
+pub type Quantizer = unsafe extern "C" fn(*const f32, usize, *mut u8, usize) -> u32;
+
 unsafe extern "C" {
     pub safe fn jambharrow_f16_to_f32(half: u16) -> f32;
     pub safe fn jambharrow_f32_to_f16(bits: u32) -> u16;
@@ -37,6 +40,19 @@ unsafe extern "C" {
         bytes: *const u8,
         bytes_len: usize,
         out: *mut f32,
+        out_len: usize,
+    ) -> u32;
+
+    pub fn jambharrow_quantize_q4_0(
+        data: *const f32,
+        data_len: usize,
+        out: *mut u8,
+        out_len: usize,
+    ) -> u32;
+    pub fn jambharrow_quantize_q8_0(
+        data: *const f32,
+        data_len: usize,
+        out: *mut u8,
         out_len: usize,
     ) -> u32;
 

@@ -9,6 +9,8 @@ use Rattle.exports.proofs.block_decoders.jambharrow_dequantize_q5_0.Rea
 use Rattle.exports.proofs.block_decoders.jambharrow_dequantize_q8_0.Reads as dequantize-q8-0
 use Rattle.exports.proofs.block_decoders.jambharrow_dequantize_q4_k.Reads as dequantize-q4-k
 use Rattle.exports.proofs.block_decoders.jambharrow_dequantize_q6_k.Reads as dequantize-q6-k
+use Rattle.exports.proofs.block_quantizers.jambharrow_quantize_q4_0.Reads as quantize-q4-0
+use Rattle.exports.proofs.block_quantizers.jambharrow_quantize_q8_0.Reads as quantize-q8-0
 use Rattle.exports.proofs.fixed_order_sums.jambharrow_canonical_chunk.Reads as canonical-chunk
 use Rattle.exports.proofs.fixed_order_sums.jambharrow_canonical_combine.Reads as canonical-combine
 use Rattle.exports.proofs.fixed_order_sums.jambharrow_canonical_dot_pub.Reads as canonical-dot-pub
@@ -38,6 +40,12 @@ dequantize-q4-k-once κs a x y s t h k = both _ _ _ _ _ h k
 
 pub dequantize-q6-k-once : OneCall dequantize-q6-k.Post (λ κs s. now (s .1 .0))
 dequantize-q6-k-once κs a x y s t h k = both _ _ _ _ _ h k
+
+pub quantize-q4-0-once : OneCall quantize-q4-0.Post (λ κs s. now (s .1 .0))
+quantize-q4-0-once κs a x y s t h k = both _ _ _ _ _ h k
+
+pub quantize-q8-0-once : OneCall quantize-q8-0.Post (λ κs s. now (s .1 .0))
+quantize-q8-0-once κs a x y s t h k = both _ _ _ _ _ h k
 
 pub canonical-chunk-once : OneCall canonical-chunk.Post (λ κs s. now (s .1 .1 .0))
 canonical-chunk-once κs a x y s t h k = both _ _ _ _ _ h k

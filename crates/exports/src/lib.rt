@@ -2,4 +2,5 @@
 mod answers;
 mod binary16;
 mod block_decoders;
+mod block_quantizers;
 mod fixed_order_sums;

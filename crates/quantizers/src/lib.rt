@@ -5,3 +5,4 @@ mod target;
 
 pub use blocks::quantize_q4_0;
 pub use blocks::quantize_q8_0;
+pub use target::Target;

@@ -1,0 +1,20 @@
+// The block quantizers.
+use crate::answers::number_of;
+use quantizers::Target;
+ghost use mathlib.Core.Path.{_≡_};
+ghost use Rattle.quantizers.specs.Says.{quantizeSays};
+ghost use Rattle.exports.specs.Answers.{numbered};
+
+#[no_mangle]
+pub extern "C" fn jambharrow_quantize_q4_0(x: &[f32], out: &mut [u8]) -> u32
+    ensures { λ r. ⌜ (r, now (out .exit)) ≡ numbered (quantizeSays Target.Q40 (now (x .entry)) (now (out .entry))) ⌝ }
+{
+    number_of(quantizers::quantize_q4_0(x, out))
+}
+
+#[no_mangle]
+pub extern "C" fn jambharrow_quantize_q8_0(x: &[f32], out: &mut [u8]) -> u32
+    ensures { λ r. ⌜ (r, now (out .exit)) ≡ numbered (quantizeSays Target.Q80 (now (x .entry)) (now (out .entry))) ⌝ }
+{
+    number_of(quantizers::quantize_q8_0(x, out))
+}
