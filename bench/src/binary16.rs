@@ -74,8 +74,10 @@ fn row<T: Copy + 'static>(
     let mut random = Random::new(INPUTS as u64);
     let inputs: Vec<T> = (0..INPUTS).map(|_| draw(&mut random)).collect();
     Row {
-        input,
+        input: input.into(),
         calls: INPUTS,
+        bar: None,
+        vector: None,
         ours: turn(inputs.clone(), ours),
         rust: turn(inputs, rust),
     }

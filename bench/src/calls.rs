@@ -1,6 +1,6 @@
 //! The calls that are measured.
-use crate::binary16;
 use crate::measure::Row;
+use crate::{binary16, block_decoders, fixed_order_sums};
 
 pub struct Call {
     /// The name of the Rust's function.
@@ -10,4 +10,16 @@ pub struct Call {
 }
 
 /// Every call, in the order of the table.
-pub static CALLS: [Call; 2] = [binary16::F16_TO_F32, binary16::F32_TO_F16];
+pub static CALLS: [Call; 11] = [
+    binary16::F16_TO_F32,
+    binary16::F32_TO_F16,
+    block_decoders::DEQUANTIZE_Q4_0,
+    block_decoders::DEQUANTIZE_Q5_0,
+    block_decoders::DEQUANTIZE_Q8_0,
+    block_decoders::DEQUANTIZE_Q4_K,
+    block_decoders::DEQUANTIZE_Q6_K,
+    fixed_order_sums::CANONICAL_CHUNK,
+    fixed_order_sums::CANONICAL_COMBINE,
+    fixed_order_sums::CANONICAL_DOT_PUB,
+    fixed_order_sums::CANONICAL_SUM_PUB,
+];

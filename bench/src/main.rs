@@ -1,17 +1,22 @@
 //! Measures Jambharrow beside the Rust and prints a table.
 mod binary16;
+mod block_decoders;
 mod calls;
+mod fixed_order_sums;
 mod measure;
 
 use calls::{Call, CALLS};
-use measure::{measure, ROUNDS};
+use measure::{measure, Row, ROUNDS};
 use std::env;
 use std::process::ExitCode;
 
 const HEAD: &str = "\
-Nanoseconds of one call, and ours over the Rust's: below 1.00 ours is faster.
-Neither side is inlined where it is measured: ours is called through C, and the
-Rust through a C function that holds it alone, so that each pays for one call.";
+Nanoseconds of one call, and ours over the Rust's: below 1.00 ours is faster. A bar is the
+most that this may be, and the word behind it says whether it is held. Neither side is
+inlined where it is measured: ours is called through C, and the Rust through a pointer, so
+that each pays for one call. The Rust's block decoders put their values into a new vector,
+which is part of their time and cannot be taken out of them; to make and to drop such a
+vector takes the time in the column `vector`. Ours fill lent memory.";
 
 fn main() -> ExitCode {
     let names: Vec<String> = env::args().skip(1).collect();
@@ -46,21 +51,38 @@ fn print_table(calls: &[&Call]) {
     println!("The median of {ROUNDS} rounds, in which both sides take turns, in one process.");
     println!();
     println!(
-        "{:<26} {:<28} {:>10} {:>10} {:>10}",
-        "call", "input", "ours", "the Rust", "ours/Rust"
+        "{:<18} {:<30} {:>9} {:>9} {:>9} {:>9}  bar",
+        "call", "input", "ours", "the Rust", "vector", "ours/Rust"
     );
     for call in calls {
         for row in (call.rows)() {
-            let input = row.input;
-            let times = measure(row);
-            println!(
-                "{:<26} {:<28} {:>10.2} {:>10.2} {:>10.2}",
-                call.name,
-                input,
-                times.ours,
-                times.rust,
-                times.ours / times.rust
-            );
+            print_row(call.name, row);
         }
+    }
+}
+
+fn print_row(name: &str, row: Row) {
+    let input = row.input.clone();
+    let bar = row.bar;
+    let times = measure(row);
+    let ratio = times.ours / times.rust;
+    let vector = times.vector.map_or(String::new(), nanoseconds);
+    let bar = match bar {
+        Some(bar) if ratio <= bar => format!("  {bar:.2} held"),
+        Some(bar) => format!("  {bar:.2} MISSED"),
+        None => String::new(),
+    };
+    println!(
+        "{name:<18} {input:<30} {:>9} {:>9} {vector:>9} {ratio:>9.2}{bar}",
+        nanoseconds(times.ours),
+        nanoseconds(times.rust),
+    );
+}
+
+fn nanoseconds(time: f64) -> String {
+    if time < 100.0 {
+        format!("{time:.2}")
+    } else {
+        format!("{time:.0}")
     }
 }

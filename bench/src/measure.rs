@@ -1,4 +1,5 @@
 //! Measuring: the two sides take turns, and the median of many rounds stands for each.
+use std::hint::black_box;
 use std::time::{Duration, Instant};
 
 /// How many rounds are measured.
@@ -10,22 +11,28 @@ const LEAST: Duration = Duration::from_micros(50);
 /// A call on one kind of input, on both sides.
 pub struct Row {
     /// What the input is.
-    pub input: &'static str,
+    pub input: String,
     /// How many calls a turn makes.
     pub calls: usize,
+    /// How much of the Rust's time ours may take at most.
+    pub bar: Option<f64>,
+    /// Where the Rust puts its values into a new vector, how many.
+    pub vector: Option<usize>,
     /// A turn of each side, on the same input.
     pub ours: Box<dyn FnMut()>,
     pub rust: Box<dyn FnMut()>,
 }
 
-/// Nanoseconds of one call on each side.
+/// Nanoseconds of one call on each side, and of the Rust's vector alone.
 pub struct Times {
     pub ours: f64,
     pub rust: f64,
+    pub vector: Option<f64>,
 }
 
 /// The side that begins a round changes from round to round.
 pub fn measure(mut row: Row) -> Times {
+    let vector = row.vector.map(measure_vector);
     let turns = turns_for(&mut row.ours).max(turns_for(&mut row.rust));
     let mut ours = Vec::with_capacity(ROUNDS);
     let mut rust = Vec::with_capacity(ROUNDS);
@@ -42,7 +49,16 @@ pub fn measure(mut row: Row) -> Times {
     Times {
         ours: median(ours).as_nanos() as f64 / calls,
         rust: median(rust).as_nanos() as f64 / calls,
+        vector,
     }
+}
+
+/// Nanoseconds that it takes to make a vector of so many zeros and to drop it.
+fn measure_vector(len: usize) -> f64 {
+    let mut turn = || drop(black_box(vec![0f32; black_box(len)]));
+    let turns = turns_for(&mut turn);
+    let times = (0..ROUNDS).map(|_| time(&mut turn, turns)).collect();
+    median(times).as_nanos() as f64 / f64::from(turns)
 }
 
 /// How many turns last long enough to be measured; to find it also warms the side up.

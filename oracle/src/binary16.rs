@@ -1,6 +1,7 @@
 //! Binary16: both ways are compared on every pattern there is.
 use crate::calls::Call;
-use crate::compare::{same, Comparison, Difference};
+use crate::compare::{Comparison, Difference};
+use crate::held::same;
 use crate::sample::Records;
 use oracle::ops::quant::reach;
 use oracle::random::Random;
@@ -22,9 +23,12 @@ fn compare_f16_to_f32(comparison: &mut Comparison) {
         let half = number as u16;
         let rust = reach::f16_to_f32(half);
         let ours = jambharrow::f16_to_f32(half);
-        (!same(rust, ours)).then(|| Difference {
+        if same(rust, ours) {
+            return Ok(1);
+        }
+        Err(Difference {
             input: format!("{half:04X}"),
-            rust: format!("{:08X}", rust.to_bits()),
+            wanted: format!("{:08X}", rust.to_bits()),
             ours: format!("{:08X}", ours.to_bits()),
         })
     });
@@ -35,9 +39,12 @@ fn compare_f32_to_f16(comparison: &mut Comparison) {
         let f = f32::from_bits(number as u32);
         let rust = reach::f32_to_f16(f);
         let ours = jambharrow::f32_to_f16(f);
-        (rust != ours).then(|| Difference {
+        if rust == ours {
+            return Ok(1);
+        }
+        Err(Difference {
             input: format!("{:08X}", f.to_bits()),
-            rust: format!("{rust:04X}"),
+            wanted: format!("{rust:04X}"),
             ours: format!("{ours:04X}"),
         })
     });
@@ -48,7 +55,7 @@ fn compare_f32_to_f16(comparison: &mut Comparison) {
 fn sample_f16_to_f32(records: &mut Records) {
     let mut store = |half: u16| {
         let answer = reach::f16_to_f32(half).to_bits();
-        records.push(&[&half.to_le_bytes()[..], &answer.to_le_bytes()[..]].concat());
+        records.push(&[&half.to_le_bytes(), &answer.to_le_bytes()]);
     };
     let mut digits: Vec<u16> = (0..=10)
         .flat_map(|place| [(1 << place) - 1, 1 << place, (1 << place) + 1])
@@ -72,7 +79,7 @@ fn sample_f16_to_f32(records: &mut Records) {
 fn sample_f32_to_f16(records: &mut Records) {
     let mut store = |bits: u32| {
         let answer = reach::f32_to_f16(f32::from_bits(bits));
-        records.push(&[&bits.to_le_bytes()[..], &answer.to_le_bytes()[..]].concat());
+        records.push(&[&bits.to_le_bytes(), &answer.to_le_bytes()]);
     };
     let digits = [
         0, 1, 0x1FFF, 0x2000, 0x2001, 0x3F_FFFF, 0x40_0000, 0x7F_DFFF, 0x7F_E000, 0x7F_FFFF,

@@ -8,29 +8,33 @@ use std::thread;
 /// How many of the cases that differ are shown.
 const SHOWN: usize = 5;
 
-/// A case on which the two sides differ.
+/// A case on which ours is not as it is to be.
 pub struct Difference {
     pub input: String,
-    pub rust: String,
+    /// The Rust's answer; where the Rust has none, document 01's.
+    pub wanted: String,
     pub ours: String,
 }
 
 impl fmt::Display for Difference {
     fn fmt(&self, to: &mut fmt::Formatter<'_>) -> fmt::Result {
-        let Difference { input, rust, ours } = self;
-        write!(to, "{input}: the Rust {rust}, ours {ours}")
+        let Difference {
+            input,
+            wanted,
+            ours,
+        } = self;
+        write!(to, "{input}: wanted {wanted}, ours {ours}")
     }
 }
 
-/// Whether two floats are the same bits, or both NaN.
-pub fn same(a: f32, b: f32) -> bool {
-    a.to_bits() == b.to_bits() || a.is_nan() && b.is_nan()
-}
+/// What comes of a case: how many values of ours were compared, or where one of them differs.
+pub type Compared = Result<u64, Difference>;
 
-/// What was compared of one call.
+/// What was compared of one call: how many cases and values, and how many of the cases differ.
 pub struct Comparison {
     call: &'static str,
-    pub compared: u64,
+    pub cases: u64,
+    pub values: u64,
     pub differ: u64,
 }
 
@@ -38,7 +42,8 @@ impl Comparison {
     pub fn of(call: &'static str) -> Comparison {
         Comparison {
             call,
-            compared: 0,
+            cases: 0,
+            values: 0,
             differ: 0,
         }
     }
@@ -48,38 +53,50 @@ impl Comparison {
     /// the number alone, so that a run can be repeated.
     pub fn cases<F>(&mut self, what: &str, count: u64, case: F)
     where
-        F: Fn(u64) -> Option<Difference> + Sync,
+        F: Fn(u64) -> Compared + Sync,
     {
         let progress = Progress::of(format!("{}: {what}", self.call), count);
         let found = search(count, &case, &progress);
         progress.clear();
-        let differ = found.count;
-        println!("{}: {what}: {count} compared, {differ} differ", self.call);
+        let Found { values, differ, .. } = found;
+        println!(
+            "{}: {what}: {count} cases, {values} values compared, {differ} differ",
+            self.call
+        );
         for (_, difference) in &found.first {
             println!("    {difference}");
         }
-        self.compared += count;
+        self.cases += count;
+        self.values += values;
         self.differ += differ;
     }
 }
 
-/// The cases that differ: how many, and the first of them by number.
+/// How many values were compared; of the cases that differ how many, and the first of them by
+/// number.
 #[derive(Default)]
 struct Found {
-    count: u64,
+    values: u64,
+    differ: u64,
     first: Vec<(u64, Difference)>,
 }
 
 impl Found {
-    fn add(&mut self, number: u64, difference: Difference) {
-        self.count += 1;
-        if self.first.len() < SHOWN {
-            self.first.push((number, difference));
+    fn add(&mut self, number: u64, compared: Compared) {
+        match compared {
+            Ok(values) => self.values += values,
+            Err(difference) => {
+                self.differ += 1;
+                if self.first.len() < SHOWN {
+                    self.first.push((number, difference));
+                }
+            }
         }
     }
 
     fn join(&mut self, other: Found) {
-        self.count += other.count;
+        self.values += other.values;
+        self.differ += other.differ;
         self.first.extend(other.first);
         self.first.sort_by_key(|(number, _)| *number);
         self.first.truncate(SHOWN);
@@ -89,7 +106,7 @@ impl Found {
 /// Each thread takes the next run of cases until none is left, so its own cases rise.
 fn search<F>(count: u64, case: &F, progress: &Progress) -> Found
 where
-    F: Fn(u64) -> Option<Difference> + Sync,
+    F: Fn(u64) -> Compared + Sync,
 {
     let threads = thread::available_parallelism().map_or(1, |threads| threads.get());
     let run = (count / 1024).clamp(1, 1 << 20);
@@ -103,9 +120,7 @@ where
             }
             progress.show(from);
             for number in from..count.min(from + run) {
-                if let Some(difference) = case(number) {
-                    found.add(number, difference);
-                }
+                found.add(number, case(number));
             }
         }
     };

@@ -9,6 +9,7 @@ pub mod dtype {
     include!(concat!(env!("OUT_DIR"), "/dtype.rs"));
 }
 pub mod error;
+pub mod inputs;
 pub mod ops {
     #[allow(dead_code, clippy::all)]
     pub mod quant {

@@ -1,7 +1,10 @@
 //! Holds Jambharrow to the Rust, call by call, and stores a sample of the Rust's answers.
 mod binary16;
+mod block_decoders;
 mod calls;
 mod compare;
+mod fixed_order_sums;
+mod held;
 mod sample;
 
 use calls::{Call, CALLS};
@@ -50,15 +53,17 @@ fn chosen<'a>(names: &[&'a str]) -> Result<Vec<&'static Call>, &'a str> {
 }
 
 fn compare_all(calls: &[&Call]) -> ExitCode {
-    let mut compared = 0;
+    let mut cases = 0;
+    let mut values = 0;
     let mut differ = 0;
     for call in calls {
         let mut comparison = Comparison::of(call.name);
         (call.compare)(&mut comparison);
-        compared += comparison.compared;
+        cases += comparison.cases;
+        values += comparison.values;
         differ += comparison.differ;
     }
-    println!("in all: {compared} compared, {differ} differ");
+    println!("in all: {cases} cases, {values} values compared, {differ} differ");
     if differ == 0 {
         ExitCode::SUCCESS
     } else {

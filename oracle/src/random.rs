@@ -22,4 +22,18 @@ impl Random {
     pub fn u16(&mut self) -> u16 {
         (self.u64() >> 48) as u16
     }
+
+    /// A number below `end`, which is small beside 2^32.
+    pub fn below(&mut self, end: usize) -> usize {
+        self.u32() as usize % end
+    }
+
+    pub fn bytes(&mut self, len: usize) -> Vec<u8> {
+        let mut bytes = Vec::with_capacity(len + 8);
+        while bytes.len() < len {
+            bytes.extend(self.u64().to_le_bytes());
+        }
+        bytes.truncate(len);
+        bytes
+    }
 }

@@ -1,7 +1,15 @@
 // Binary16. A payload is the half and the bits of its float, or the bits of a float and its half.
 use crate::findings::Finding;
 
-pub fn judge_f16_to_f32(payload: &[u8]) -> Finding {
+pub fn judge_binary16(tag: u8, payload: &[u8]) -> Finding {
+    match tag {
+        0 => judge_f16_to_f32(payload),
+        1 => judge_f32_to_f16(payload),
+        _ => Finding::Unknown,
+    }
+}
+
+fn judge_f16_to_f32(payload: &[u8]) -> Finding {
     if payload.len() != 6 {
         return Finding::Malformed;
     }
@@ -10,7 +18,7 @@ pub fn judge_f16_to_f32(payload: &[u8]) -> Finding {
     Finding::of_floats(numbers::f16_to_f32(half), numbers::of_bits(answer))
 }
 
-pub fn judge_f32_to_f16(payload: &[u8]) -> Finding {
+fn judge_f32_to_f16(payload: &[u8]) -> Finding {
     if payload.len() != 6 {
         return Finding::Malformed;
     }

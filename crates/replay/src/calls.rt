@@ -1,26 +1,23 @@
-// The calls that are replayed: the tag of each, its name, and what holds its answers to the Rust's.
-use crate::binary16::judge_f16_to_f32;
-use crate::binary16::judge_f32_to_f16;
+// The calls that are replayed, by their tags. A call's tag is its place in the oracle's list of calls.
+use crate::binary16::judge_binary16;
+use crate::block_decoders::judge_block_decoder;
 use crate::findings::Finding;
-use libc::STDOUT_FILENO;
+use crate::fixed_order_sums::judge_fixed_order_sum;
+use crate::report::print_name;
 
-// How many there are. A tag is a call's place in the oracle's list of calls.
-pub const CALLS: usize = 2;
+// The tag of a record whose payload is the name of the call before it.
+const NAME: u8 = 255;
 
-// What comes of a record of the call `tag`.
+// What comes of a record with this tag: an answer is judged, and a name printed.
 pub fn judge(tag: u8, payload: &[u8]) -> Finding {
     match tag {
-        0 => judge_f16_to_f32(payload),
-        1 => judge_f32_to_f16(payload),
+        0..=1 => judge_binary16(tag, payload),
+        2..=6 => judge_block_decoder(tag, payload),
+        7..=10 => judge_fixed_order_sum(tag, payload),
+        NAME => {
+            print_name(payload);
+            Finding::Name
+        }
         _ => Finding::Unknown,
-    }
-}
-
-// Writes the name of the call with this tag, and answers as `io::write_all` does.
-pub fn print_name(tag: usize) -> bool {
-    match tag {
-        0 => io::write_all(STDOUT_FILENO, b"f16_to_f32"),
-        1 => io::write_all(STDOUT_FILENO, b"f32_to_f16"),
-        _ => true,
     }
 }

@@ -1,9 +1,14 @@
 // What comes of a record of the sample.
+use refusals::Answer;
+use refusals::Outcome;
+
 pub enum Finding {
     // Our answer is the Rust's.
     Same,
     // It is not.
     Differs,
+    // It is no answer, but the name of the call whose records end with it.
+    Name,
     // No call has the tag.
     Unknown,
     // The payload is longer than the buffer, or is not of its call's form.
@@ -23,8 +28,28 @@ impl Finding {
         }
     }
 
-    // Of two floats: they are the same bits, or both NaN.
     pub fn of_floats(ours: f32, theirs: f32) -> Self {
-        Finding::of_same(numbers::bits_of(ours) == numbers::bits_of(theirs))
+        Finding::of_same(same_bits(ours, theirs))
+    }
+
+    // Of a dot or a sum: theirs is the number that says no, 0 where there is none, and then the value.
+    pub fn of_answer(ours: Answer, number: u32, value: f32) -> Self {
+        match ours {
+            Answer::Value(v) => Finding::of_same(number == 0 && same_bits(v, value)),
+            Answer::Refused(said) => Finding::of_same(said == number),
+        }
+    }
+}
+
+// Whether two floats are the same bits, or both NaN.
+pub fn same_bits(a: f32, b: f32) -> bool {
+    numbers::bits_of(a) == numbers::bits_of(b)
+}
+
+// Whether a call that fills lent memory says this number: that it is done is 0.
+pub fn says(ours: Outcome, number: u32) -> bool {
+    match ours {
+        Outcome::Done => number == 0,
+        Outcome::Refused(said) => said == number,
     }
 }

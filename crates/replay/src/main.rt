@@ -1,26 +1,30 @@
 // The Rust's stored answers, replayed.
 //
 // Standard input is a sample of them, the file `stdin` beside src/. The oracle made it by asking the Rust itself, and with it `stdout`, the text that is
-// to be printed: `oracle/run sample` makes both again. A record is a tag byte, which says the call, the payload's length as a little-endian u32, and
-// the payload: the call's input, then the Rust's answer.
+// to be printed: `oracle/run sample` makes both again. A record is a tag byte, the payload's length as a little-endian u32, and the payload. The tag says
+// the call; the payload is the call's input, then the answer, which is the Rust's, or document 01's refusal where the Rust has none. Behind the records of
+// a call stands one with the tag 255, whose payload is the call's name.
 //
 // For each call a line says how many answers were replayed, and how many of ours differ: neither the same bits nor both NaN. Where the sample
 // cannot be read on, a last line says why, and at which byte.
 mod binary16;
+mod block_decoders;
 mod calls;
 mod findings;
+mod fixed_order_sums;
+mod payload;
 mod records;
 mod report;
 
-use calls::CALLS;
 use findings::Finding;
 
-// How far the replay is: whether it goes on, the byte at which the next record begins, and for each call the answers so far and how many of them differ.
+// How far the replay is: whether it goes on, the byte at which the next record begins, and of the call whose records are read the answers so far and how
+// many of them differ.
 struct Replay {
     on: bool,
     at: u64,
-    answers: [u64; CALLS],
-    differ: [u64; CALLS],
+    answers: u64,
+    differ: u64,
 }
 
 impl Replay {
@@ -28,27 +32,34 @@ impl Replay {
         Replay {
             on: true,
             at: 0,
-            answers: [0; CALLS],
-            differ: [0; CALLS],
+            answers: 0,
+            differ: 0,
         }
     }
 
-    // One answer more of the call `tag`, with a payload of `len` bytes; `differs` is 1 where ours differs, and otherwise 0.
-    fn counted(mut self, tag: u8, len: usize, differs: u64) -> Self {
-        let call = tag as usize;
-        if call < CALLS {
-            self.answers[call] = std::num::wrapping_add_u64(self.answers[call], 1);
-            self.differ[call] = std::num::wrapping_add_u64(self.differ[call], differs);
-        }
+    // Past a record with a payload of `len` bytes.
+    fn past(mut self, len: usize) -> Self {
         self.at = std::num::wrapping_add_u64(std::num::wrapping_add_u64(self.at, 5), len as u64);
         self
     }
 
-    // The replay at its end, its lines printed.
+    // One answer more; `differs` is 1 where ours differs, and otherwise 0.
+    fn counted(mut self, differs: u64) -> Self {
+        self.answers = std::num::wrapping_add_u64(self.answers, 1);
+        self.differ = std::num::wrapping_add_u64(self.differ, differs);
+        self
+    }
+
+    // The call's line, whose name is printed, printed to its end.
+    fn named(mut self) -> Self {
+        report::print_counts(self.answers, self.differ);
+        self.answers = 0;
+        self.differ = 0;
+        self
+    }
+
+    // The replay at its end.
     fn ended(mut self, tag: u8, finding: Finding) -> Self {
-        let answers = self.answers;
-        let differ = self.differ;
-        report::print_calls(answers, differ);
         report::print_end(finding, tag, self.at);
         self.on = false;
         self
@@ -60,8 +71,9 @@ fn step(buf: &mut [u8], replay: Replay) -> Replay {
     let record = records::next(buf);
     let finding = record.finding;
     match finding {
-        Finding::Same => replay.counted(record.tag, record.len, 0),
-        Finding::Differs => replay.counted(record.tag, record.len, 1),
+        Finding::Same => replay.past(record.len).counted(0),
+        Finding::Differs => replay.past(record.len).counted(1),
+        Finding::Name => replay.past(record.len).named(),
         _ => replay.ended(record.tag, finding),
     }
 }

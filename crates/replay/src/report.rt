@@ -1,23 +1,19 @@
 // What the replay prints.
-use crate::calls::CALLS;
-use crate::calls::print_name;
 use crate::findings::Finding;
 use libc::STDOUT_FILENO;
 
-fn print_call(call: usize, answers: u64, differ: u64) {
-    print_name(call);
+// The beginning of a call's line: its name.
+pub fn print_name(name: &[u8]) {
+    io::write_all(STDOUT_FILENO, name);
+}
+
+// The rest of the line: how many answers were replayed, and how many of ours differ.
+pub fn print_counts(answers: u64, differ: u64) {
     io::write_all(STDOUT_FILENO, b": ");
     io::print_decimal(STDOUT_FILENO, answers);
     io::write_all(STDOUT_FILENO, b" answers, ");
     io::print_decimal(STDOUT_FILENO, differ);
     io::write_all(STDOUT_FILENO, b" differ\n");
-}
-
-// A line for each call: how many answers were replayed, and how many of ours differ.
-pub fn print_calls(answers: [u64; CALLS], differ: [u64; CALLS]) {
-    for call in 0..CALLS {
-        print_call(call, answers[call], differ[call]);
-    }
 }
 
 // Why the sample cannot be read on; nothing, where it was read to its end.

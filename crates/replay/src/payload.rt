@@ -1,0 +1,40 @@
+// What stands in a payload: little-endian u32s, and floats as their bits.
+use crate::findings::same_bits;
+
+// The u32 at a place; 0 where the payload ends before it does.
+pub fn u32_at(payload: &[u8], at: usize) -> u32 {
+    let len = payload.len();
+    if len < 4 {
+        return 0;
+    }
+    if at > len - 4 {
+        return 0;
+    }
+    numbers::le_u32(
+        payload[at],
+        payload[at + 1],
+        payload[at + 2],
+        payload[at + 3],
+    )
+}
+
+// The payload's first floats, as many as there are places for them.
+pub fn read_floats(payload: &[u8], out: &mut [f32]) {
+    let mut i: usize = 0;
+    while i < out.len() {
+        out[i] = numbers::of_bits(u32_at(payload, 4 * i));
+        i += 1;
+    }
+}
+
+// Whether the payload's first floats are these.
+pub fn same_floats(payload: &[u8], floats: &[f32]) -> bool {
+    let mut i: usize = 0;
+    while i < floats.len() {
+        if !same_bits(floats[i], numbers::of_bits(u32_at(payload, 4 * i))) {
+            return false;
+        }
+        i += 1;
+    }
+    true
+}
