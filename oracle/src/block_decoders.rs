@@ -167,8 +167,8 @@ impl Decoder {
         }
     }
 
-    /// The Rust's values, and none where it refuses. It has to refuse where document 01 says that it
-    /// does.
+    /// The Rust's values, and none where it refuses. It has to refuse where document 01 says that
+    /// it does.
     fn rust_answers(
         &self,
         bytes: &[u8],
@@ -188,8 +188,8 @@ impl Decoder {
     }
 
     /// Two blocks for each kind of scale, no bytes, and each refusal that a small input can have. A
-    /// payload is how many places the output has and how many packed bytes there are, the bytes, the
-    /// number of the refusal, 0 for none, and what then stands in the output.
+    /// payload is how many places the output has and how many packed bytes there are, the bytes,
+    /// the number of the refusal, 0 for none, and what then stands in the output.
     fn sample(&self, records: &mut Records) {
         let Layout { bytes, values, .. } = self.layout;
         let mut random = Random::new(bytes as u64);
