@@ -1,6 +1,6 @@
 //! The calls that are measured.
 use crate::measure::Row;
-use crate::{binary16, block_decoders, fixed_order_sums};
+use crate::{binary16, block_decoders, block_quantizers, fixed_order_sums};
 
 pub struct Call {
     /// The name of the Rust's function.
@@ -10,7 +10,7 @@ pub struct Call {
 }
 
 /// Every call, in the order of the table.
-pub static CALLS: [Call; 11] = [
+pub static CALLS: [Call; 13] = [
     binary16::F16_TO_F32,
     binary16::F32_TO_F16,
     block_decoders::DEQUANTIZE_Q4_0,
@@ -18,6 +18,8 @@ pub static CALLS: [Call; 11] = [
     block_decoders::DEQUANTIZE_Q8_0,
     block_decoders::DEQUANTIZE_Q4_K,
     block_decoders::DEQUANTIZE_Q6_K,
+    block_quantizers::QUANTIZE_Q4_0,
+    block_quantizers::QUANTIZE_Q8_0,
     fixed_order_sums::CANONICAL_CHUNK,
     fixed_order_sums::CANONICAL_COMBINE,
     fixed_order_sums::CANONICAL_DOT_PUB,

@@ -1,6 +1,7 @@
 //! Measures Jambharrow beside the Rust and prints a table.
 mod binary16;
 mod block_decoders;
+mod block_quantizers;
 mod calls;
 mod fixed_order_sums;
 mod measure;
@@ -15,7 +16,8 @@ Nanoseconds of one call, and ours over the Rust's: below 1.00 ours is faster. A 
 most that this may be, and the word behind it says whether it is held. Neither side is
 inlined where it is measured: ours is called through C, and the Rust through a pointer, so
 that each pays for one call. The Rust's block decoders put their values into a new vector,
-which is part of their time and cannot be taken out of them; to make and to drop such a
+which is part of their time and cannot be taken out of them, as its block quantizers do with
+their bytes; to make and to drop such a
 vector takes the time in the column `vector`. Ours fill lent memory.";
 
 fn main() -> ExitCode {

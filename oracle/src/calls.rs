@@ -1,7 +1,7 @@
 //! The calls that are compared and sampled.
 use crate::compare::Comparison;
 use crate::sample::Records;
-use crate::{binary16, block_decoders, fixed_order_sums};
+use crate::{binary16, block_decoders, block_quantizers, fixed_order_sums};
 
 pub struct Call {
     /// The name of the Rust's function.
@@ -14,7 +14,7 @@ pub struct Call {
 
 /// Every call. A call's tag in the stored sample is its place here, so that a new one comes
 /// last.
-pub static CALLS: [Call; 11] = [
+pub static CALLS: [Call; 13] = [
     binary16::F16_TO_F32,
     binary16::F32_TO_F16,
     block_decoders::DEQUANTIZE_Q4_0,
@@ -26,4 +26,6 @@ pub static CALLS: [Call; 11] = [
     fixed_order_sums::CANONICAL_COMBINE,
     fixed_order_sums::CANONICAL_DOT_PUB,
     fixed_order_sums::CANONICAL_SUM_PUB,
+    block_quantizers::QUANTIZE_Q4_0,
+    block_quantizers::QUANTIZE_Q8_0,
 ];

@@ -58,29 +58,63 @@ fn refused(refusal: Refusal) -> String {
     format!("refusal {}", refusal.number())
 }
 
+/// What stands in one place of lent memory.
+pub trait Place: Copy {
+    fn bits(self) -> u32;
+
+    /// Whether this may be written where the Rust writes `other`.
+    fn stands_for(self, other: Self) -> bool;
+}
+
+impl Place for f32 {
+    fn bits(self) -> u32 {
+        self.to_bits()
+    }
+
+    fn stands_for(self, other: f32) -> bool {
+        same(self, other)
+    }
+}
+
+impl Place for u8 {
+    fn bits(self) -> u32 {
+        self.into()
+    }
+
+    fn stands_for(self, other: u8) -> bool {
+        self == other
+    }
+}
+
 /// Floats of all bits, another at each place: memory before it is lent.
 pub fn memory(len: usize) -> Vec<f32> {
-    (1..=len as u32)
-        .map(|place| f32::from_bits(place.wrapping_mul(0x9E37_79B9)))
-        .collect()
+    marks(len).map(f32::from_bits).collect()
+}
+
+/// Bytes, of which neighbours differ: memory before it is lent.
+pub fn bytes(len: usize) -> Vec<u8> {
+    marks(len).map(|mark| (mark >> 24) as u8).collect()
+}
+
+fn marks(len: usize) -> impl Iterator<Item = u32> {
+    (1..=len as u32).map(|place| place.wrapping_mul(0x9E37_79B9))
 }
 
 /// Holds memory after a call to what is to stand in it: `written` from place `at` on, and at every
 /// other place the bits of `before`.
-pub fn places(
+pub fn places<P: Place>(
     at: usize,
-    written: &[f32],
-    before: &[f32],
-    after: &[f32],
+    written: &[P],
+    before: &[P],
+    after: &[P],
     input: impl Fn() -> String,
 ) -> Compared {
     let end = at + written.len();
     let kept = |from: usize, to: usize| {
-        let bits = |memory: &[f32], place: usize| memory[place].to_bits();
-        (from..to).find(|&place| bits(before, place) != bits(after, place))
+        (from..to).find(|&place| before[place].bits() != after[place].bits())
     };
     let wrong = kept(0, at)
-        .or_else(|| (at..end).find(|&place| !same(written[place - at], after[place])))
+        .or_else(|| (at..end).find(|&place| !after[place].stands_for(written[place - at])))
         .or_else(|| kept(end, after.len()));
     let Some(place) = wrong else {
         return Ok(written.len() as u64);
@@ -92,7 +126,7 @@ pub fn places(
     };
     Err(Difference {
         input: format!("{}, place {place}, lent from {at} on", input()),
-        wanted: format!("{:08X}", wanted.to_bits()),
-        ours: format!("{:08X}", after[place].to_bits()),
+        wanted: format!("{:08X}", wanted.bits()),
+        ours: format!("{:08X}", after[place].bits()),
     })
 }

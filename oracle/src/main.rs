@@ -1,6 +1,7 @@
 //! Holds Jambharrow to the Rust, call by call, and stores a sample of the Rust's answers.
 mod binary16;
 mod block_decoders;
+mod block_quantizers;
 mod calls;
 mod compare;
 mod fixed_order_sums;

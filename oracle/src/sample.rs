@@ -6,6 +6,8 @@ use std::path::Path;
 
 /// What stands in each place of an output before the call of a stored record.
 pub const STOOD: f32 = -1.5;
+/// The same where the output is bytes.
+pub const STOOD_BYTE: u8 = 0xEE;
 
 /// The tag of the record that stands behind those of a call. Its payload is the call's name.
 const NAME: u8 = 255;

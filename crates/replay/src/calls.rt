@@ -1,6 +1,7 @@
 // The calls that are replayed, by their tags. A call's tag is its place in the oracle's list of calls.
 use crate::binary16::judge_binary16;
 use crate::block_decoders::judge_block_decoder;
+use crate::block_quantizers::judge_block_quantizer;
 use crate::findings::Finding;
 use crate::fixed_order_sums::judge_fixed_order_sum;
 use crate::report::print_name;
@@ -14,6 +15,7 @@ pub fn judge(tag: u8, payload: &[u8]) -> Finding {
         0..=1 => judge_binary16(tag, payload),
         2..=6 => judge_block_decoder(tag, payload),
         7..=10 => judge_fixed_order_sum(tag, payload),
+        11..=12 => judge_block_quantizer(tag, payload),
         NAME => {
             print_name(payload);
             Finding::Name

@@ -9,6 +9,7 @@
 // cannot be read on, a last line says why, and at which byte.
 mod binary16;
 mod block_decoders;
+mod block_quantizers;
 mod calls;
 mod findings;
 mod fixed_order_sums;

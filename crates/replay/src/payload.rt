@@ -38,3 +38,18 @@ pub fn same_floats(payload: &[u8], floats: &[f32]) -> bool {
     }
     true
 }
+
+// Whether the payload's first bytes are these.
+pub fn same_bytes(payload: &[u8], bytes: &[u8]) -> bool {
+    if payload.len() < bytes.len() {
+        return false;
+    }
+    let mut i: usize = 0;
+    while i < bytes.len() {
+        if payload[i] != bytes[i] {
+            return false;
+        }
+        i += 1;
+    }
+    true
+}

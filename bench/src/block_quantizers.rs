@@ -1,0 +1,51 @@
+//! The block quantizers, over a few blocks and over many.
+use crate::calls::Call;
+use crate::measure::Row;
+use jambharrow::Refusal;
+use oracle::inputs::reading;
+use oracle::ops::quant;
+use oracle::random::Random;
+use std::hint::black_box;
+
+pub const QUANTIZE_Q4_0: Call = Call {
+    name: "quantize_q4_0",
+    rows: || rows(18, jambharrow::quantize_q4_0, quant::quantize_q4_0),
+};
+
+pub const QUANTIZE_Q8_0: Call = Call {
+    name: "quantize_q8_0",
+    rows: || rows(34, jambharrow::quantize_q8_0, quant::quantize_q8_0),
+};
+
+/// How many blocks of 32 readings a small run has, and a large one.
+const RUNS: [usize; 2] = [64, 2_048];
+
+/// How much of the Rust's time a quantizer may take at most.
+const BAR: f64 = 0.7;
+
+fn rows(
+    bytes: usize,
+    ours: impl Fn(&[f32], &mut [u8]) -> Result<(), Refusal> + Copy + 'static,
+    rust: fn(&[f32]) -> oracle::error::Result<Vec<u8>>,
+) -> Vec<Row> {
+    let rust = black_box(rust);
+    let row = |blocks: usize| {
+        let mut random = Random::new(blocks as u64);
+        let data: Vec<f32> = (0..32 * blocks).map(|_| reading(&mut random)).collect();
+        let theirs = data.clone();
+        let mut out = vec![0; bytes * blocks];
+        Row {
+            input: format!("{blocks} blocks of readings"),
+            calls: 1,
+            bar: Some(BAR),
+            vector: None,
+            ours: Box::new(move || {
+                ours(black_box(&data), black_box(&mut out)).expect("room for whole blocks");
+            }),
+            rust: Box::new(move || {
+                black_box(rust(black_box(&theirs))).expect("whole blocks");
+            }),
+        }
+    };
+    RUNS.into_iter().map(row).collect()
+}
