@@ -9,6 +9,7 @@ use lib.Seq.{take-all}
 use lib.Ieee.{Float, nan}
 use Rattle.memory.specs.Lists.{part}
 use Rattle.memory.proofs.Filled.{part-at}
+use Rattle.memory.proofs.Parts.{within-whole}
 use Rattle.layouts.specs.Formats.{bytesK}
 use Rattle.layouts.specs.K.{valueK}
 use Rattle.layouts.specs.Weights.{weightAt, valuesOf}
@@ -16,7 +17,6 @@ use Rattle.layouts.specs.declared.format.FormatK.{FormatK}
 use Rattle.layouts.specs.declared.format.FormatK.the-variants.{Q4K, Q6K}
 use Rattle.layouts.specs.declared.format.Format.the-variants.{OfK}
 use Rattle.layouts.proofs.Rows.{weight-skip, weight-front}
-use Rattle.memory.proofs.Parts.{within-whole}
 use Rattle.layouts.proofs.Sizes.{sizes}
 use Rattle.fused.specs.Terms.{terms}
 

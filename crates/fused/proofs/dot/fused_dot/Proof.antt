@@ -1,5 +1,6 @@
 -- `dot::fused_dot` meets its contract: the checks in their order, and the row's sum. Assumes nothing.
 use mathlib.Core.Path.{sym, ap}
+use Prim.Native.Nat.{_*_, _/_}
 use lib.ListN.{length}
 use borrow.Author.Tests.{lt-ltb, le-ltb, eq-eqb, ne-eqb}
 use Rattle.refusals.specs.Said.{value}
@@ -52,12 +53,14 @@ returns-3 c =
 returns-4 : tie.Need-returns-4
 unfolding fusedSays
 returns-4 c =
+    let b = c .before .before .before .before in
+    let a = b .before .before .before .args in
     simp (
-      sym (c .before .before .before .before .block-bytes .ensures),
+      sym (b .block-bytes .ensures),
       le-ltb _ _ (c .before .before .before .if1 .left),
       eq-eqb _ _ (c .before .before .if2 .left),
       ne-eqb _ _ (c .before .if3 .left),
-      lt-ltb _ _ (c .if4 .taken),
+      lt-ltb (length (a .w .now) / b .block-bytes .result * 256) (a .n) (omega arith),
     )
 
 returns-5 : tie.Need-returns-5
