@@ -2,7 +2,8 @@
 use crate::block::Q8Block;
 use crate::block::sums_right;
 use crate::whole::minimum_sum;
-use crate::whole::whole_sum;
+use crate::whole::sum_q4k;
+use crate::whole::sum_q6k;
 use layouts::FormatK;
 use refusals::Answer;
 ghost use mathlib.Core.Path.{_≡_};
@@ -33,7 +34,7 @@ pub fn block_dot_q4k(w: &[u8], xq: Q8Block, n: usize) -> f32
     ensures { λ r. ⌜ r ≡ blockDot FormatK.Q4K (now (w .entry)) xq n ⌝ }
 {
     let qs = xq.qs;
-    let a = numbers::whole_to_f32(whole_sum(FormatK::Q4K, w, qs, n));
+    let a = numbers::whole_to_f32(sum_q4k(w, qs, n));
     let m = numbers::whole_to_f32(minimum_sum(w, &xq.bsums));
     half_at(w, 0) * xq.d * a - half_at(w, 2) * xq.d * m
 }
@@ -44,7 +45,7 @@ pub fn block_dot_q6k(w: &[u8], xq: Q8Block, n: usize) -> f32
     ensures { λ r. ⌜ r ≡ blockDot FormatK.Q6K (now (w .entry)) xq n ⌝ }
 {
     let qs = xq.qs;
-    let b = numbers::whole_to_f32(whole_sum(FormatK::Q6K, w, qs, n));
+    let b = numbers::whole_to_f32(sum_q6k(w, qs, n));
     half_at(w, 208) * xq.d * b
 }
 

@@ -9,7 +9,6 @@ ghost use lib.Dec.{ltb};
 ghost use lib.IntN.{ℤ, pos, _+ℤ_, _*ℤ_};
 ghost use lib.ListN.{length, getD};
 ghost use Rattle.memory.specs.Lists.{table};
-ghost use Rattle.layouts.specs.Formats.{bytesK};
 ghost use Rattle.activations.specs.Whole.{elem, sumℤ, Within};
 ghost use Rattle.activations.specs.Dots.{wholeSum, minimumSum};
 
@@ -88,17 +87,6 @@ fn whole_q6k(w: &[u8], x: &[i8; 256]) -> i32
     a
 }
 
-// All places, each format its own way.
-fn whole_block(format: FormatK, w: &[u8], x: &[i8; 256]) -> i32
-    requires { ⌜ length (now w) ≡ bytesK format ⌝ }
-    ensures { λ r. ⌜ r ≡ wholeSum format (now (w .entry)) (now (x .entry)) 256 ⌝ }
-{
-    match format {
-        FormatK::Q4K => whole_q4k(w, x),
-        FormatK::Q6K => whole_q6k(w, x),
-    }
-}
-
 // The quants below n, and 0 from there on.
 fn cut(x: [i8; 256], n: usize) -> [i8; 256]
     requires { ⌜ n ≤ 256 ⌝ }
@@ -111,13 +99,22 @@ fn cut(x: [i8; 256], n: usize) -> [i8; 256]
     r
 }
 
-// The whole-number sum over the places below n.
-pub(crate) fn whole_sum(format: FormatK, w: &[u8], x: [i8; 256], n: usize) -> i32
-    requires { ⌜ (length (now w) ≡ bytesK format) × (n ≤ 256) ⌝ }
-    ensures { λ r. ⌜ r ≡ wholeSum format (now (w .entry)) x n ⌝ }
+// Q4_K's whole-number sum over the places below n. A function for each format, so that each is inlined where it is called.
+pub(crate) fn sum_q4k(w: &[u8], x: [i8; 256], n: usize) -> i32
+    requires { ⌜ (length (now w) ≡ 144) × (n ≤ 256) ⌝ }
+    ensures { λ r. ⌜ r ≡ wholeSum FormatK.Q4K (now (w .entry)) x n ⌝ }
 {
     let below = cut(x, n);
-    whole_block(format, w, &below)
+    whole_q4k(w, &below)
+}
+
+// Q6_K's.
+pub(crate) fn sum_q6k(w: &[u8], x: [i8; 256], n: usize) -> i32
+    requires { ⌜ (length (now w) ≡ 210) × (n ≤ 256) ⌝ }
+    ensures { λ r. ⌜ r ≡ wholeSum FormatK.Q6K (now (w .entry)) x n ⌝ }
+{
+    let below = cut(x, n);
+    whole_q6k(w, &below)
 }
 
 // Q4_K's minimums times the block's sums, all eight.

@@ -8,8 +8,8 @@ use borrow.Author.Needs.{needs}
 use Rattle.activations.proofs.dot.block_dot_q4k.Statement.{statement}
 use Rattle.activations.proofs.dot.block_dot_q4k.Tie as tie
 
-whole-sum-requires : tie.Need-whole-sum-requires
-whole-sum-requires c κs = search needs
+sum-q4k-requires : tie.Need-sum-q4k-requires
+sum-q4k-requires c κs = search needs
 
 whole-to-f32-requires : tie.Need-whole-to-f32-requires
 whole-to-f32-requires c κs = search needs
@@ -32,14 +32,14 @@ returns c =
     let m = c .before .before in
     let a = m .before .before .before .before in
     let dx = a .before .before .before .before .args .t2 .d in
-    less-is (scaled-is dx (c .before .half-at .ensures) (a .whole-to-f32 .ensures) (read-is w32 _ (a .before .whole-sum .ok) ∙ a .before .whole-sum .ensures))
+    less-is (scaled-is dx (c .before .half-at .ensures) (a .whole-to-f32 .ensures) (read-is w32 _ (a .before .sum-q4k .ok) ∙ a .before .sum-q4k .ensures))
     (scaled-is dx (c .half-at2 .ensures) (m .whole-to-f322 .ensures) (read-is w32 _ (m .before .minimum-sum .ok) ∙ m .before .minimum-sum .ensures))
 
 pub block-dot-q4k-spec : {M : Type 1} → statement M
 block-dot-q4k-spec =
     tie.close
     (tie.spec
-    whole-sum-requires
+    sum-q4k-requires
     whole-to-f32-requires
     minimum-sum-requires
     whole-to-f32-requires-2
