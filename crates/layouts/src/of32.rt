@@ -16,40 +16,17 @@ pub fn less(n: u8, k: u8) -> i8
     n as i8 - k as i8
 }
 
-// Sixteen bytes' low nibbles less 8, and their high ones: side by side they are vectors, as neighbours they would not be.
-fn low_nibbles(bytes: &[u8]) -> [i8; 16]
-    requires { ⌜ length (now bytes) ≡ 16 ⌝ }
-    ensures { λ r. ⌜ r ≡ table (λ k. pos (getD (now (bytes .entry)) k 0 % 16) -ℤ pos 8) 16 ⌝ }
-{
-    let mut q = [0i8; 16];
-    for k in 0..16usize {
-        q[k] = less(bytes[k] % 16, 8);
-    }
-    q
-}
-
-fn high_nibbles(bytes: &[u8]) -> [i8; 16]
-    requires { ⌜ length (now bytes) ≡ 16 ⌝ }
-    ensures { λ r. ⌜ r ≡ table (λ k. pos (getD (now (bytes .entry)) k 0 / 16) -ℤ pos 8) 16 ⌝ }
-{
-    let mut q = [0i8; 16];
-    for k in 0..16usize {
-        q[k] = less(bytes[k] / 16, 8);
-    }
-    q
-}
-
-// Q4_0's whole numbers: byte k's low and high nibbles are neighbours.
+// Q4_0's whole numbers: byte k's low and high nibbles are neighbours. The loop counts to the block's length and not to a number, since the compiler would
+// write out sixteen turns and make no vectors of them.
 fn quants_q4_0(block: &[u8]) -> [i8; 32]
     requires { ⌜ length (now block) ≡ 18 ⌝ }
     ensures { λ r. ⌜ r ≡ table (quant32 Format32.Q40 (now (block .entry))) 32 ⌝ }
 {
-    let low = low_nibbles(&block[2..18]);
-    let high = high_nibbles(&block[2..18]);
     let mut q = [0i8; 32];
-    for k in 0..16usize {
-        q[2 * k] = low[k];
-        q[2 * k + 1] = high[k];
+    for k in 0..block.len() - 2 {
+        let b = block[2 + k];
+        q[2 * k] = less(b % 16, 8);
+        q[2 * k + 1] = less(b / 16, 8);
     }
     q
 }
