@@ -1,0 +1,2 @@
+-- A layer's shape.
+pub mod Shapes
