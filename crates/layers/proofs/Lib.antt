@@ -1,0 +1,2 @@
+-- Why the float layers meet their contracts.
+pub mod RowDots

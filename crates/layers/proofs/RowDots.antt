@@ -1,0 +1,71 @@
+-- A layer's row dots never refuse: its own checks were enough. Assumes nothing.
+use mathlib.Core.Path.{_≡_, refl, sym, ap, _∙_}
+use mathlib.Core.List.{List}
+use Prim.Native.Nat.{ℕ, zero, suc, _+_, _-_, _*_, _/_, _%_, _≤_, _<_}
+use native.Mathlib.Nat.{le-of-eq, mul-mod-left, mul-div-cancel}
+use native.Mathlib.Omega.{arith}
+use borrow.Author.Tests.{le-ltb, eq-eqb, ne-eqb}
+use lib.ListN.{length, take, drop}
+use lib.Ieee.{Float}
+use Rattle.refusals.specs.Said.{Said, value, refused, saidBy}
+use Rattle.refusals.specs.Sizes.{mostIn}
+use Rattle.refusals.specs.declared.Answer.{Answer}
+use Rattle.refusals.specs.declared.Answer.the-variants as answer
+use Rattle.layouts.specs.Formats.{bytesK}
+use Rattle.layouts.specs.Weights.{valuesOf}
+use Rattle.layouts.specs.declared.format.FormatK.{FormatK}
+use Rattle.layouts.specs.declared.format.Format.the-variants.{OfK}
+use Rattle.layouts.proofs.Sizes.{sizes}
+use Rattle.sums.specs.Tree.{tree, met}
+use Rattle.sums.specs.Lanes.{products}
+use Rattle.sums.specs.Rows.{rowSum}
+use Rattle.sums.specs.Says.{dotSays}
+use Rattle.memory.specs.Lists.{table}
+use Rattle.fused.specs.Terms.{terms}
+use Rattle.fused.specs.Says.{fusedSays}
+use Rattle.shapes.specs.Shapes.{rowBytes, weightRow}
+
+-- ---- an answer that says a value
+
+pub value-of : (a : Answer) (u v : Float) → saidBy a ≡ value v → a ≡ answer.Value u → u ≡ v
+value-of a u v s e = cc (sym (ap saidBy e) ∙ s)
+
+pub no-refusal : (a : Answer) (num : ℕ) (v : Float) → saidBy a ≡ value v → a ≡ answer.Refused num → ⊥
+no-refusal a num v s e =
+    let clash : refused num ≡ value v = sym (ap saidBy e) ∙ s in
+    let z : _≡_ {A = ℕ} 0 1 = cc clash in
+    absurd (omega arith)
+
+-- ---- a row of whole blocks
+
+-- the values of a row's bytes are as many as the row has places
+pub row-values : (f : FormatK) (n room : ℕ) → n % 256 ≡ 0 → room ≡ rowBytes f n → (room % bytesK f ≡ 0) × (valuesOf (OfK f) room ≡ n)
+row-values f n room whole e =
+    let positive : 0 < bytesK f = omega (arith, sizes (OfK f)) in
+    let back : n / 256 * bytesK f / bytesK f ≡ n / 256 = mul-div-cancel (n / 256) positive in
+    let all : n / 256 * 256 ≡ n = omega arith in
+    (rw e (mul-mod-left (n / 256) (bytesK f)), rw (e, back) all)
+
+-- row o of the weights, as it is lent
+pub lent-row : (f : FormatK) (w : List ℕ) (n o size : ℕ) → size ≡ rowBytes f n → take (o * size + size - o * size) (drop (o * size) w) ≡ weightRow f w n o
+lent-row f w n o size e =
+    let d : o * size + size - o * size ≡ size = omega arith in
+    rw (d, e)
+
+not-nought : (m : ℕ) → suc m ≡ 0 → ⊥
+not-nought m e = omega arith
+
+-- the fused dot of such a row and as many readings
+pub fused-answers : (f : FormatK) (x : List Float) (w : List ℕ) (n : ℕ) → n ≤ mostIn → n ≤ length x → n % 256 ≡ 0 → length w ≡ rowBytes f n
+    → fusedSays f x w n ≡ value (rowSum (terms f x w) n)
+unfolding fusedSays rowSum tree met table
+fused-answers f x w zero most enough whole e = simp (eq-eqb _ _ (row-values f 0 (length w) whole e .0))
+fused-answers f x w (suc m) most enough whole e =
+    let v = row-values f (suc m) (length w) whole e in
+    simp (le-ltb _ _ most, eq-eqb _ _ (v .0), ne-eqb _ _ (not-nought m), le-ltb _ _ (le-of-eq (sym (v .1))), le-ltb _ _ enough)
+
+-- the dot of as many readings as weights
+pub dot-answers : (x w : List Float) (n : ℕ) → n ≤ mostIn → n ≤ length x → n ≤ length w → dotSays x w n ≡ value (rowSum (products x w) n)
+unfolding dotSays rowSum tree met table
+dot-answers x w zero most enough e = refl
+dot-answers x w (suc m) most enough e = simp (le-ltb _ _ most, ne-eqb _ _ (not-nought m), le-ltb _ _ e, le-ltb _ _ enough)

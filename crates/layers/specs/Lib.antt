@@ -1,0 +1,3 @@
+-- What the float layers say.
+pub mod Says
+pub mod Columns
