@@ -4,9 +4,10 @@ use layouts::Format32;
 use layouts::FormatK;
 use shapes::Shape;
 ghost use mathlib.Core.Path.{_≡_};
+ghost use Prim.Native.Nat.{_^_, _<_};
 ghost use Rattle.layers.specs.Says.{cpuNo};
 
-// Over a K format: 6, 4, 5, 1, 3, and 5 for scratch, in this order; 0 where it does not.
+// Over a K format: 6, 4, 5, 1, 3, and 5 for scratch, in this order; 0 where it does not. A slice has fewer than 2^63 places, so the product of its blocks fits.
 fn cpu_k_no(
     format: FormatK,
     s: Shape,
@@ -15,6 +16,7 @@ fn cpu_k_no(
     places: usize,
     scratch: usize,
 ) -> u32
+    requires { ⌜ weights < 2 ^ 63 ⌝ }
     ensures { λ r. ⌜ r ≡ cpuNo (Format.OfK format) s readings weights places scratch ⌝ }
 {
     if shapes::is_oversize(s) {
@@ -80,6 +82,7 @@ pub(crate) fn cpu_no(
     places: usize,
     scratch: usize,
 ) -> u32
+    requires { ⌜ weights < 2 ^ 63 ⌝ }
     ensures { λ r. ⌜ r ≡ cpuNo format s readings weights places scratch ⌝ }
 {
     match format {
