@@ -1,49 +1,79 @@
+-- `decoded_row::decode_within` meets its contract: a whole block, or the places of one that are asked for. Assumes nothing.
+use mathlib.Core.Path.{_≡_, refl, sym, ap, _∙_}
+use Prim.Native.Nat.{ℕ, _+_, _-_, _≤_, _<_}
 use native.Mathlib.Omega.{arith}
+use borrow.Author.Needs.{needs}
+use mathlib.Core.List.{List}
+use lib.ListN.{length, getD, take, replicate, List·getD-append}
+use lib.Seq.{length-take-le}
+use lib.Ieee.{Float, nan}
+use Rattle.memory.specs.Lists.{table}
+use Rattle.memory.proofs.Filled.{Filling, filling-start, filling-more, filling-done, length-table, getD-table, table-ext}
+use Rattle.numbers.specs.Steps.{nought}
+use Rattle.layouts.specs.Formats.{blockValues}
+use Rattle.layouts.specs.Weights.{valueIn}
+use Rattle.layouts.proofs.Sizes.{sizes}
 use Rattle.layers.proofs.decoded_row.decode_within.Statement.{statement}
 use Rattle.layers.proofs.decoded_row.decode_within.Tie as tie
-use Rattle.layers.proofs.decoded_row.decode_within.Reads as reads
-use Rattle.layers.proofs.decoded_row.decode_within.Lts as lts
-use Rattle.decoders.proofs.decode_block.Reads as decode-block-reads
-use Rattle.layouts.proofs.block_values.Reads as block-values-reads
 
 abbrev Inv-loop : tie.InvT-loop
-Inv-loop block from out₀ values whole i₀ i-end out i = ?
+Inv-loop block from out₀ values whole i₀ i-end out i = Filling (λ k. getD whole (from + k) nan) out₀ (length out₀) out i
 
 abbrev μ-loop : tie.MeasureT-loop
-μ-loop block from out₀ values whole i₀ i-end out i = ?
+μ-loop block from out₀ values whole i₀ i-end out i = length out₀ - i
 
 block-values-requires : tie.Need-block-values-requires Inv-loop μ-loop
-block-values-requires c κs = omega arith
+block-values-requires c κs = search needs
 
 decode-block-requires : tie.Need-decode-block-requires Inv-loop μ-loop
-decode-block-requires c κs = omega arith
+decode-block-requires c κs =
+    let v = c .before .before .block-values in
+    let t = c .before .before .before .before .before in
+    (t .pre .0, c .before .if1 .taken ∙ v .ensures)
 
 same-length : tie.Need-same-length Inv-loop μ-loop
-same-length c = omega arith
+same-length c = search needs
 
 returns : tie.Need-returns Inv-loop μ-loop
-returns c = omega arith
+returns c =
+    let t = c .before .before .before .before .before .before .before .before in
+    let v = c .before .before .before .before .before .block-values in
+    let all : length (t .args .out .now) ≡ blockValues (t .args .format) = c .before .before .before .before .if1 .taken ∙ v .ensures in
+    let first : t .args .from ≡ 0 = omega (arith, t .pre .1, all) in
+    c .before .before .decode-block .ensures
+    ∙ table-ext (valueIn (t .args .format) (t .args .block .now)) (λ i. valueIn (t .args .format) (t .args .block .now) (t .args .from + i)) (blockValues (t .args .format)) (λ i h. ap (valueIn (t .args .format) (t .args .block .now)) (omega (arith, first)))
+    ∙ ap (table (λ i. valueIn (t .args .format) (t .args .block .now) (t .args .from + i))) (sym all)
+
+-- a block's values fit the array, and are as many as its front
+front : (c : tie.Else1 Inv-loop μ-loop) → length (take (c .before .block-values .result) (replicate 256 nought)) ≡ c .before .block-values .result
+front c = length-take-le (c .before .block-values .result) (replicate 256 nought) (omega (arith, sizes (c .before .before .before .before .args .format), c .before .block-values .ensures))
 
 array-borrow-prefix-whole : tie.Need-array-borrow-prefix-whole Inv-loop μ-loop
-array-borrow-prefix-whole c = omega arith
+array-borrow-prefix-whole c = omega (arith, sizes (c .before .before .before .before .args .format), c .before .block-values .ensures)
 
 slice-aggregate-decode-block : tie.Need-slice-aggregate-decode-block Inv-loop μ-loop
-slice-aggregate-decode-block c = omega arith
+slice-aggregate-decode-block c = sym (front (c .before))
 
 decode-block-requires-2 : tie.Need-decode-block-requires-2 Inv-loop μ-loop
-decode-block-requires-2 c κs = omega arith
+decode-block-requires-2 c κs = (c .before .before .before .before .before .pre .0, front (c .before) ∙ c .before .before .block-values .ensures)
 
 loop-holds : tie.Need-loop-holds Inv-loop μ-loop
-loop-holds c = omega arith
+loop-holds c = filling-start _ _ _ refl
+
+-- the place that a turn reads is one of the block's
+inside : (c : tie.In-loop Inv-loop μ-loop) → (let t = c .before .before .before .before .before .before .before .before .before in (t .args .from + c .before .loop .i < blockValues (t .args .format)) × (blockValues (t .args .format) ≤ 256))
+inside c =
+    let t = c .before .before .before .before .before .before .before .before .before in
+    (omega (arith, t .pre .1, c .loop-test .taken), sizes (t .args .format) .3)
 
 add-out : tie.Need-add-out Inv-loop μ-loop
-add-out c = omega arith
+add-out c = omega (arith, inside c)
 
 mul-out : tie.Need-mul-out Inv-loop μ-loop
-mul-out c = omega arith
+mul-out c = omega (arith, inside c)
 
 array-read-out : tie.Need-array-read-out Inv-loop μ-loop
-array-read-out c = omega arith
+array-read-out c = omega (arith, inside c)
 
 mul-out-2 : tie.Need-mul-out-2 Inv-loop μ-loop
 mul-out-2 c = omega arith
@@ -58,13 +88,23 @@ loop-less : tie.Need-loop-less Inv-loop μ-loop
 loop-less c = omega arith
 
 loop-again : tie.Need-loop-again Inv-loop μ-loop
-loop-again c = omega arith
+loop-again c = let l = c .before .loop in filling-more _ _ _ (l .out) (l .i) _ refl (l .inv) (c .loop-test .taken) refl
 
 same-length-2 : tie.Need-same-length-2 Inv-loop μ-loop
-same-length-2 c = omega arith
+same-length-2 c = c .before .loop .inv .2
 
 returns-2 : tie.Need-returns-2 Inv-loop μ-loop
-returns-2 c = omega arith
+returns-2 c =
+    let t = c .before .before .before .before .before .before .before .before .before in
+    let l = c .before .loop in
+    let d = c .before .before .before .decode-block2 in
+    let f = valueIn (t .args .format) (t .args .block .now) in
+    let v = blockValues (t .args .format) in
+    filling-done _ _ (length (t .args .out .now)) (l .out) (l .i) refl (l .inv) (c .loop-test .left)
+    ∙ table-ext _ (λ i. f (t .args .from + i)) (length (t .args .out .now)) (λ i h.
+        let k : t .args .from + i < v = omega (arith, t .pre .1, h) in
+        let long : length (d .last .1 .1 .0) ≡ v = ap length (d .ensures) ∙ length-table f v in
+        List·getD-append (d .last .1 .1 .0) _ nan (t .args .from + i) (rw long k) ∙ ap (λ (ys : List Float). getD ys (t .args .from + i) nan) (d .ensures) ∙ getD-table f v (t .args .from + i) nan k)
 
 pub decode-within-spec : {M : Type 1} → statement M
 decode-within-spec =
