@@ -1,2 +1,3 @@
 -- Why the float layers meet their contracts.
 pub mod RowDots
+pub mod Columns
