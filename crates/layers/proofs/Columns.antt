@@ -1,20 +1,25 @@
--- An output that is filled column by column is the output filled row by row. Assumes nothing.
+-- An output that is filled column by column is the output filled row by row, and what scratch holds meanwhile. Assumes nothing.
 use mathlib.Core.Path.{_≡_, refl, sym, ap, _∙_}
 use mathlib.Core.Logic.{inl, inr}
-use mathlib.Core.List.{List}
-use Prim.Native.Nat.{ℕ, zero, suc, _+_, _*_, _/_, _%_, _≤_, _<_}
-use native.Mathlib.Nat.{le-refl, mul-zero, le-of-suc-le-suc, eq-or-lt-of-le, lt-trans, lt-suc-self, lt-of-lt-of-le, mod-lt, div-add-mod', div-lt-iff-lt-mul}
+use mathlib.Core.Bool.{cond}
+use mathlib.Core.List.{List, _++_}
+use Prim.Native.Nat.{ℕ, zero, suc, _+_, _-_, _*_, _/_, _%_, _≤_, _<_}
+use native.Mathlib.Nat.{le-refl, mul-zero, mul-one, mul-le-mul-left, le-of-suc-le-suc, eq-or-lt-of-le, lt-trans, lt-suc-self, lt-of-lt-of-le, mod-lt, div-add-mod', div-lt-iff-lt-mul}
 use native.Mathlib.Decide.{decLe}
 use native.Mathlib.Numerals.{add-one}
 use native.Mathlib.Omega.{arith}
+use borrow.Author.Tests.{eq-eqb, ne-eqb}
 use lib.Arith.{digits-div, digits-mod}
 use lib.ListN.{length, getD, set, drop, length-set, List·getD-append}
-use lib.Seq.{getD-set-same, getD-set-other, ext-getD}
+use lib.Dec.{eqb}
+use lib.Seq.{getD-set-same, getD-set-other, ext-getD, drop-at}
 use lib.Ieee.{Float, nan}
 use Rattle.memory.specs.Lists.{table, filled}
 use Rattle.memory.proofs.Filled.{length-table, getD-table, length-filled, filled-behind}
 use Rattle.memory.proofs.Parts.{within}
-use Rattle.layers.specs.Columns.{column, columns}
+use Rattle.layouts.specs.declared.format.Format.{Format}
+use Rattle.layers.specs.Says.{rowWeight}
+use Rattle.layers.specs.Columns.{column, columns, scratchOf}
 
 -- ---- one column
 
@@ -126,3 +131,35 @@ module _ (v : ℕ → ℕ → Float) (batch n : ℕ) (y : List Float) where
                 ∙ columns-hit n (k / n) (k % n) (le-refl n) (mod-lt k P) (div-lt-iff-lt-mul P .1 l) r
                 ∙ sym (List·getD-append (table f (batch * n)) (drop (batch * n) y) nan k (rw length-table l) ∙ getD-table f (batch * n) k nan l)
           ]
+
+-- ---- scratch
+
+module _ (f : Format) (w : List ℕ) (n : ℕ) (scratch : List Float) where
+  pub scratch-none : scratch ≡ scratchOf f w n scratch 0
+  unfolding scratchOf
+  scratch-none = refl
+
+  behind : (o : ℕ) → drop n (scratchOf f w n scratch o) ≡ drop n scratch
+  unfolding scratchOf
+  behind zero = refl
+  behind (suc o) = drop-at (table (rowWeight f w n o) n) (drop n scratch) n (length-table (rowWeight f w n o) n)
+
+  -- row o is decoded in the place of the row before
+  pub scratch-more : (o : ℕ) (old row : List Float) → old ≡ scratchOf f w n scratch o → row ≡ table (rowWeight f w n o) n → row ++ drop n old ≡ scratchOf f w n scratch (o + 1)
+  unfolding scratchOf
+  scratch-more o old row e r = rw (e, r, behind o, add-one)
+
+  pub length-scratch : (o : ℕ) → n ≤ length scratch → length (scratchOf f w n scratch o) ≡ length scratch
+  unfolding scratchOf
+  length-scratch zero h = refl
+  length-scratch (suc o) h = length-filled (rowWeight f w n o) scratch n h
+
+  -- after the last row, where there is a row of readings
+  pub scratch-last : (batch out : ℕ) → (batch ≡ 0 → ⊥) → scratchOf f w n scratch out ≡ cond (eqb (batch * out) 0) scratch (filled (rowWeight f w n (out - 1)) scratch n)
+  unfolding scratchOf
+  scratch-last batch zero h = rw (eq-eqb _ _ (mul-zero batch))
+  scratch-last batch (suc m) h =
+      let more : batch * 1 ≤ batch * suc m = mul-le-mul-left batch (omega arith) in
+      let some : batch * suc m ≡ 0 → ⊥ = λ e. h (omega (arith, e, more, mul-one batch)) in
+      let before : suc m - 1 ≡ m = omega arith in
+      rw (ne-eqb _ _ some, before)

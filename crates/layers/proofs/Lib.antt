@@ -1,3 +1,4 @@
 -- Why the float layers meet their contracts.
 pub mod RowDots
 pub mod Columns
+pub mod CpuFits
