@@ -4,7 +4,7 @@ use mathlib.Core.Logic.{inl, inr}
 use mathlib.Core.Bool.{cond}
 use mathlib.Core.List.{List, _++_}
 use Prim.Native.Nat.{ℕ, zero, suc, _+_, _-_, _*_, _/_, _%_, _≤_, _<_}
-use native.Mathlib.Nat.{le-refl, mul-zero, mul-one, mul-le-mul-left, le-of-suc-le-suc, eq-or-lt-of-le, lt-trans, lt-suc-self, lt-of-lt-of-le, mod-lt, div-add-mod', div-lt-iff-lt-mul}
+use native.Mathlib.Nat.{le-refl, mul-zero, mul-one, mul-le-mul-left, le-of-suc-le-suc, eq-or-lt-of-le, lt-trans, lt-suc-self, mod-lt, div-add-mod', div-lt-iff-lt-mul}
 use native.Mathlib.Decide.{decLe}
 use native.Mathlib.Numerals.{add-one}
 use native.Mathlib.Omega.{arith}
@@ -105,7 +105,7 @@ module _ (v : ℕ → ℕ → Float) (batch n : ℕ) (y : List Float) where
   positive : (k : ℕ) → k < batch * n → 0 < n
   positive k l =
       elim (decLe n 0) [
-        yes u ↦
+        | yes u ↦
             let e : n ≡ 0 = omega arith in
             let nothing : batch * n ≡ 0 = ap (λ (m : ℕ). batch * m) e ∙ mul-zero batch in
             absurd (omega arith)
@@ -122,7 +122,7 @@ module _ (v : ℕ → ℕ → Float) (batch n : ℕ) (y : List Float) where
       at : (k : ℕ) → k < length (columns v batch n y n) → getD (columns v batch n y n) k nan ≡ getD (filled f y (batch * n)) k nan
       at k h =
           elim (decLe (batch * n) k) [
-            yes u ↦ columns-behind n k (le-refl n) u ∙ sym (filled-behind f y (batch * n) k nan u)
+            | yes u ↦ columns-behind n k (le-refl n) u ∙ sym (filled-behind f y (batch * n) k nan u)
             | no u ↦
                 let l : k < batch * n = omega arith in
                 let P : 0 < n = positive k l in

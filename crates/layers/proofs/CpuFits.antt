@@ -1,7 +1,7 @@
 -- What is known where a `_cpu` layer does not refuse. Assumes nothing.
 use mathlib.Core.Path.{_≡_, sym, ap, _∙_}
 use Prim.Native.Nat.{ℕ, _*_, _/_, _%_, _≤_, _<_}
-use native.Mathlib.Nat.{le-of-eq, mul-assoc, mul-div-cancel}
+use native.Mathlib.Nat.{mul-assoc, mul-div-cancel}
 use native.Mathlib.Omega.{arith}
 use borrow.Author.Tests.{ltb-false, eqb-true, not-false}
 use lib.Dec.{lit<}

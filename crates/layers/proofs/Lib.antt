@@ -2,3 +2,4 @@
 pub mod RowDots
 pub mod Columns
 pub mod CpuFits
+pub mod Unique

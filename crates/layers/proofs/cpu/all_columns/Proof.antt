@@ -1,7 +1,7 @@
 -- `cpu::all_columns` meets its contract: a row of weights is decoded, and its column filled, a turn. Assumes nothing.
 use mathlib.Core.Path.{_≡_, refl, sym, ap, _∙_}
 use mathlib.Core.List.{List, _++_}
-use Prim.Native.Nat.{ℕ, _+_, _-_, _*_, _≤_, _<_, zero-le}
+use Prim.Native.Nat.{ℕ, _+_, _-_, _*_, _≤_, zero-le}
 use mathlib.Core.Bool.{Bool, cond}
 use native.Mathlib.Nat.{zero-mul, le-refl, le-antisymm, le-of-eq}
 use native.Mathlib.Omega.{arith}
@@ -72,11 +72,12 @@ facts c =
     let n = s .«in_feat» in
     let l = c .before .loop in
     let room : n ≤ length (l .scratch) = omega (arith, f .spare, l .inv .4) in
-    let most = within (l .o) n (s .«out_feat») (s .«out_feat» * n) (c .loop-test .taken) (le-refl _) in
-    (within (l .o) n (s .«out_feat») (valuesOf (t .args .format) (length (t .args .w .now))) (c .loop-test .taken) (le-of-eq (sym (f .weighed))),
-    omega (arith, most, product-small (s .«out_feat») n 65536 131072 (f .within .out-in) (f .within .in-in)),
-    length-take-le n (l .scratch) room,
-    room)
+    let most = within (l .o) n (s .«out_feat») (s .«out_feat» * n) (c .loop-test .taken) (le-refl _) in (
+      within (l .o) n (s .«out_feat») (valuesOf (t .args .format) (length (t .args .w .now))) (c .loop-test .taken) (le-of-eq (sym (f .weighed))),
+      omega (arith, most, product-small (s .«out_feat») n 65536 131072 (f .within .out-in) (f .within .in-in)),
+      length-take-le n (l .scratch) room,
+      room,
+    )
 
 mul-decode-row : tie.Need-mul-decode-row Inv-loop μ-loop
 mul-decode-row c = omega (arith, facts c .1)
@@ -138,9 +139,10 @@ fill-column-requires c κs =
     let d = e .before .before in
     let t = d .before .before .before .before .before .before .before .before in
     let f = fit t in
-    let l = d .before .loop in
-    ((f .within .batch-in, f .within .in-in, f .within .out-in, d .loop-test .taken),
-    (le-of-eq (sym (f .read)), ap length (row-is e) ∙ length-table _ _, le-of-eq (sym (l .inv .3 ∙ f .room))))
+    let l = d .before .loop in (
+      (f .within .batch-in, f .within .in-in, f .within .out-in, d .loop-test .taken),
+      (le-of-eq (sym (f .read)), ap length (row-is e) ∙ length-table _ _, le-of-eq (sym (l .inv .3 ∙ f .room))),
+    )
 
 enum-told : tie.Need-enum-told Inv-loop μ-loop
 enum-told c = search needs
@@ -176,12 +178,13 @@ loop-again c =
     let v : ℕ → ℕ → Float = λ b r. decodedDotAt (a .format) (readingRow (a .x .now) (a .s) b) (a .w .now) n r in
     let by : List Float → List Float = λ row. column (λ b. rowSum (products (readingRow (a .x .now) (a .s) b) row) n) outs (l .o) (l .y) (a .s .batch) in
     let filled-up : call .last .1 .1 .0 ≡ columns v (a .s .batch) outs (a .y .now) (l .o + 1) =
-    call .ensures .1 ∙ ap by (row-is e) ∙ ap (λ (ys : List Float). column (λ b. v b (l .o)) outs (l .o) ys (a .s .batch)) (l .inv .0) ∙ columns-more v (a .s .batch) outs (a .y .now) (l .o) in
-    (filled-up,
-    scratch-more (a .format) (a .w .now) n (a .scratch .now) (l .o) (l .scratch) (e .decode-row .last .1 .1 .1 .0) (l .inv .1) (decoded e),
-    omega (arith, d .loop-test .taken),
-    ap length filled-up ∙ length-columns v (a .s .batch) outs (a .y .now) (l .o + 1),
-    whole e)
+    call .ensures .1 ∙ ap by (row-is e) ∙ ap (λ (ys : List Float). column (λ b. v b (l .o)) outs (l .o) ys (a .s .batch)) (l .inv .0) ∙ columns-more v (a .s .batch) outs (a .y .now) (l .o) in (
+      filled-up,
+      scratch-more (a .format) (a .w .now) n (a .scratch .now) (l .o) (l .scratch) (e .decode-row .last .1 .1 .1 .0) (l .inv .1) (decoded e),
+      omega (arith, d .loop-test .taken),
+      ap length filled-up ∙ length-columns v (a .s .batch) outs (a .y .now) (l .o + 1),
+      whole e,
+    )
 
 same-length-3 : tie.Need-same-length-3 Inv-loop μ-loop
 same-length-3 c = c .before .loop .inv .3

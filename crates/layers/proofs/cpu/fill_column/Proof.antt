@@ -2,7 +2,7 @@
 use mathlib.Core.Path.{_≡_, refl, sym, ap, _∙_}
 use mathlib.Core.List.{List}
 use Prim.Native.Nat.{ℕ, _+_, _-_, _*_, _≤_, _<_, zero-le}
-use native.Mathlib.Nat.{le-refl, le-antisymm, le-of-eq}
+use native.Mathlib.Nat.{le-antisymm, le-of-eq}
 use native.Mathlib.Omega.{arith}
 use borrow.Author.Needs.{needs}
 use lib.ListN.{length, take, drop, set, length-set}
@@ -124,10 +124,11 @@ loop-again c =
     let outs = a .s .«out_feat» in
     let v : ℕ → Float = λ k. rowSum (products (part (a .x .now) (k * n) n) (a .row .now)) n in
     let place = l .b * outs + a .o in
-    let e = value-of _ _ _ (said (m .before)) (c .before .answer .given .1) in
-    (ap (λ (u : Float). set (l .y) place u) e ∙ ap (λ (ys : List Float). set ys place (v (l .b))) (l .inv .0) ∙ column-more v outs (a .o) (a .y .now) (l .b),
-    omega (arith, d .loop-test .taken),
-    length-set (l .y) place _ ∙ l .inv .2)
+    let e = value-of _ _ _ (said (m .before)) (c .before .answer .given .1) in (
+      ap (λ (u : Float). set (l .y) place u) e ∙ ap (λ (ys : List Float). set ys place (v (l .b))) (l .inv .0) ∙ column-more v outs (a .o) (a .y .now) (l .b),
+      omega (arith, d .loop-test .taken),
+      length-set (l .y) place _ ∙ l .inv .2,
+    )
 
 same-length-2 : tie.Need-same-length-2 Inv-loop μ-loop
 same-length-2 c = c .before .loop .inv .2

@@ -1,11 +1,10 @@
 -- `cpu_checks::cpu_32_no` meets its contract: the checks in their order. Assumes nothing.
-use mathlib.Core.Path.{_≡_, sym, _∙_}
+use mathlib.Core.Path.{sym, _∙_}
 use Prim.Native.Nat.{_*_, _/_, _≤_}
 use native.Mathlib.Omega.{arith}
 use borrow.Author.Needs.{needs}
 use borrow.Author.Tests.{lt-ltb, le-ltb, eq-eqb, ne-eqb}
 use Rattle.refusals.specs.Refusals.{given}
-use Rattle.layouts.specs.Formats.{bytes32}
 use Rattle.layouts.proofs.Sizes.{least-32}
 use Rattle.shapes.proofs.Fits.{InSizes, in-sizes, product-small}
 use Rattle.layers.specs.Says.{cpuNo}

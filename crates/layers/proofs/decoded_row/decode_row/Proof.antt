@@ -1,7 +1,6 @@
 -- `decoded_row::decode_row` meets its contract: the places of one block a turn. Assumes nothing.
 use mathlib.Core.Path.{_≡_, refl, sym, ap, _∙_}
-use mathlib.Core.List.{List}
-use Prim.Native.Nat.{ℕ, _+_, _-_, _*_, _/_, _%_, _≤_, _<_, zero-le, min}
+use Prim.Native.Nat.{ℕ, _+_, _-_, _*_, _/_, _%_, _≤_, _<_, zero-le}
 use native.Mathlib.Nat.{le-antisymm, le-of-eq, mod-lt, div-add-mod', div-lt-iff-lt-mul}
 use native.Mathlib.Omega.{arith}
 use borrow.Author.Needs.{needs}
@@ -10,7 +9,6 @@ use lib.Ieee.{Float}
 use Rattle.memory.specs.Lists.{table, filled}
 use Rattle.memory.proofs.Filled.{filled-none, filled-all, part-length, part-turn}
 use Rattle.memory.proofs.Parts.{within-whole}
-use Rattle.layouts.specs.Formats.{blockBytes, blockValues}
 use Rattle.layouts.specs.Weights.{valueIn, weightAt}
 use Rattle.layouts.proofs.Sizes.{sizes, placed}
 use Rattle.layers.proofs.decoded_row.decode_row.Statement.{statement}
@@ -133,9 +131,10 @@ decode-within-requires c κs =
     let values = d .before .before .block-values in
     let t = d .before .before .before .before .before .before in
     let b = (t .args .from + d .before .loop .at) / values .result in
-    let k = count e in
-    (part-length (t .args .w .now) (b * size .result) (size .result) (b * size .result + size .result) refl (here d .stop) ∙ size .ensures,
-    rw (lent e, sym (values .ensures)) (omega (arith, k .1, here d .inner)))
+    let k = count e in (
+      part-length (t .args .w .now) (b * size .result) (size .result) (b * size .result + size .result) refl (here d .stop) ∙ size .ensures,
+      rw (lent e, sym (values .ensures)) (omega (arith, k .1, here d .inner)),
+    )
 
 loop-less : tie.Need-loop-less Inv-loop μ-loop
 loop-less c = let e = c .before .before .before .before .before in omega (arith, count e, e .before .loop-test .taken)
@@ -162,7 +161,7 @@ loop-again c =
     let k = here d in
     let n = count e in
     let same : (i : ℕ) → i < r → g i ≡ whole (l .at + i) = λ i h.
-        placed f w b (inside + i) z v (size .ensures) (values .ensures) (omega (arith, n .1, k .inner, h)) ∙ ap (weightAt f w) (omega (arith, k .adds)) in
+    placed f w b (inside + i) z v (size .ensures) (values .ensures) (omega (arith, n .1, k .inner, h)) ∙ ap (weightAt f w) (omega (arith, k .adds)) in
     let p =
     part-turn whole g (t .args .out .now) (l .out) (c .before .before .decode-within .last .1 .1 .1 .0) (l .at) r (l .at + r) (l .at + r) refl refl (n .2) (l .inv .0)
     (c .before .before .decode-within .ensures ∙ ap (table g) (lent e)) same in

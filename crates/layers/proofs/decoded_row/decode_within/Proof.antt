@@ -1,6 +1,6 @@
 -- `decoded_row::decode_within` meets its contract: a whole block, or the places of one that are asked for. Assumes nothing.
 use mathlib.Core.Path.{_≡_, refl, sym, ap, _∙_}
-use Prim.Native.Nat.{ℕ, _+_, _-_, _≤_, _<_}
+use Prim.Native.Nat.{_+_, _-_, _≤_, _<_}
 use native.Mathlib.Omega.{arith}
 use borrow.Author.Needs.{needs}
 use mathlib.Core.List.{List}
@@ -102,9 +102,9 @@ returns-2 c =
     let v = blockValues (t .args .format) in
     filling-done _ _ (length (t .args .out .now)) (l .out) (l .i) refl (l .inv) (c .loop-test .left)
     ∙ table-ext _ (λ i. f (t .args .from + i)) (length (t .args .out .now)) (λ i h.
-        let k : t .args .from + i < v = omega (arith, t .pre .1, h) in
-        let long : length (d .last .1 .1 .0) ≡ v = ap length (d .ensures) ∙ length-table f v in
-        List·getD-append (d .last .1 .1 .0) _ nan (t .args .from + i) (rw long k) ∙ ap (λ (ys : List Float). getD ys (t .args .from + i) nan) (d .ensures) ∙ getD-table f v (t .args .from + i) nan k)
+    let k : t .args .from + i < v = omega (arith, t .pre .1, h) in
+    let long : length (d .last .1 .1 .0) ≡ v = ap length (d .ensures) ∙ length-table f v in
+    List·getD-append (d .last .1 .1 .0) _ nan (t .args .from + i) (rw long k) ∙ ap (λ (ys : List Float). getD ys (t .args .from + i) nan) (d .ensures) ∙ getD-table f v (t .args .from + i) nan k)
 
 pub decode-within-spec : {M : Type 1} → statement M
 decode-within-spec =

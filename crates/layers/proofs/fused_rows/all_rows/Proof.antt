@@ -1,7 +1,7 @@
 -- `fused_rows::all_rows` meets its contract: one row of readings a turn, into its own row of the output. Assumes nothing.
 use mathlib.Core.Path.{_≡_, refl, sym, ap, _∙_}
 use Prim.Native.Nat.{ℕ, _+_, _-_, _*_, _/_, _%_, _≤_, _<_, zero-le}
-use native.Mathlib.Nat.{le-antisymm, le-of-eq, zero-mul, suc-mul}
+use native.Mathlib.Nat.{le-antisymm, zero-mul, suc-mul}
 use native.Mathlib.Numerals.{add-one}
 use native.Mathlib.Omega.{arith}
 use borrow.Author.Needs.{needs}
@@ -9,7 +9,7 @@ use mathlib.Core.List.{List}
 use lib.Arith.{digits-div, digits-mod}
 use lib.ListN.{length, take, drop}
 use lib.Ieee.{Float}
-use Rattle.refusals.specs.Said.{Said, done}
+use Rattle.refusals.specs.Said.{done}
 use Rattle.refusals.proofs.Laws.{carried-done}
 use Rattle.memory.specs.Lists.{table, filled, part}
 use Rattle.memory.proofs.Filled.{filled-none, part-length, part-turn}

@@ -1,5 +1,5 @@
 -- `fused_rows::one_row` meets its contract: one row's dot a turn. Assumes nothing.
-use mathlib.Core.Path.{_≡_, refl, sym, ap, _∙_}
+use mathlib.Core.Path.{_≡_, refl, ap, _∙_}
 use Prim.Native.Nat.{ℕ, _+_, _-_, _*_, _≤_, _<_}
 use native.Mathlib.Nat.{le-refl}
 use native.Mathlib.Omega.{arith}
@@ -11,7 +11,7 @@ use Rattle.memory.proofs.Filled.{Filling, filling-start, filling-more, filling-
 use Rattle.memory.proofs.Parts.{within}
 use Rattle.sums.specs.Rows.{rowSum}
 use Rattle.fused.specs.Terms.{terms}
-use Rattle.shapes.specs.Shapes.{rowBytes, weightRow}
+use Rattle.shapes.specs.Shapes.{rowBytes}
 use Rattle.shapes.proofs.Fits.{row-small}
 use Rattle.layers.specs.Says.{fusedDotAt}
 use Rattle.layers.proofs.RowDots.{value-of, no-refusal, lent-row, fused-answers}
