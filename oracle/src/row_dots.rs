@@ -20,7 +20,7 @@ pub struct RowDot {
 }
 
 /// How many rows of a few blocks are compared, and how many readings they have at most.
-const SHORT_ROWS: u64 = 1 << 17;
+const SHORT_ROWS: u64 = 1 << 18;
 const SHORT: usize = 1_100;
 
 /// Counts of places against one block: the last is one too many.
