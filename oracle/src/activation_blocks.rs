@@ -3,7 +3,7 @@ use crate::calls::Call;
 use crate::compare::{Compared, Comparison};
 use crate::held;
 use crate::row_dots::RowDot;
-use crate::sample::{count, floats, Records, STOOD, STOOD_BYTE};
+use crate::sample::{count, floats, Records};
 use jambharrow::{Q8Block, Refusal};
 use oracle::inputs::{
     self, any_float, any_scale, row, set_scale, trained_scale, Draw, Layout, SCALES,
@@ -112,26 +112,29 @@ fn quantize_case(x: &[f32]) -> Compared {
     Ok(places)
 }
 
+/// The block that ours answers beside a refusal.
+const NONE: Q8Block = Q8Block {
+    d: 0.0,
+    qs: [0; VALUES],
+    bsums: [0; 8],
+};
+
 /// Blocks of every class, the bench card's, each count around a sub-block's and a block's, and one
 /// reading too many. A payload is how many readings there are, the readings, the refusal's number,
-/// and what then stands in the three places: the scale, the quants and the sums.
+/// and the block, which is of zeros where there is none.
 fn sample_quantize_block_q8(records: &mut Records) {
     let mut random = Random::new(VALUES as u64);
     let mut store = |x: &[f32]| {
         let refusal = quantize_refusal(x.len());
         let block = match refusal {
-            None => quant::quantize_block_q8(x),
-            Some(_) => quant::Q8Block {
-                d: STOOD,
-                qs: [STOOD_BYTE as i8; VALUES],
-                bsums: [STOOD_BYTE.into(); 8],
-            },
+            None => of_rust(quant::quantize_block_q8(x)),
+            Some(_) => NONE,
         };
         records.push(&[
             &count(x.len()),
             &floats(x),
             &count(refusal.map_or(0, |refusal| refusal.number() as usize)),
-            &parts(block.d, &block.qs, &block.bsums),
+            &stored(&block),
         ]);
     };
     store(&[0x0080_0000, 0x0000_0200, 0].map(f32::from_bits));
@@ -144,11 +147,21 @@ fn sample_quantize_block_q8(records: &mut Records) {
     }
 }
 
-/// The parts of a block, as they stand in a payload.
-fn parts(d: f32, qs: &[i8], bsums: &[i32]) -> Vec<u8> {
-    let qs = qs.iter().map(|&quant| quant as u8);
-    let bsums = bsums.iter().flat_map(|sum| sum.to_le_bytes());
-    floats(&[d]).into_iter().chain(qs).chain(bsums).collect()
+/// A block as it stands in a payload: its scale, its quants, a byte each, and its sums, as the
+/// floats that they are.
+fn stored(block: &Q8Block) -> Vec<u8> {
+    let sums = block.bsums.map(|sum| sum as f32);
+    for (sum, float) in block.bsums.into_iter().zip(sums) {
+        assert_eq!(float as i32, sum, "a stored sum is a float's");
+    }
+    let quants = block.qs.map(|quant| quant as u8);
+    [&floats(&[block.d]), &quants[..], &floats(&sums)].concat()
+}
+
+/// The Rust's block, as ours.
+fn of_rust(block: quant::Q8Block) -> Q8Block {
+    let quant::Q8Block { d, qs, bsums } = block;
+    Q8Block { d, qs, bsums }
 }
 
 /// The dot of a packed block and an activation block, on both sides.
@@ -279,7 +292,7 @@ impl BlockDot {
                 &count(n),
                 &count(w.len()),
                 w,
-                &parts(block.d, &block.qs, &block.bsums),
+                &stored(block),
                 &count(refusal.map_or(0, |refusal| refusal.number() as usize)),
                 &floats(&[value]),
             ]);
@@ -288,11 +301,13 @@ impl BlockDot {
             let packed = self.packed(&mut random);
             store(&packed, &of_readings(&mut random), n);
         }
-        for n in [0, 100, 256] {
+        for (n, wrong_by) in [(0, 1), (100, -1), (256, 65_536)] {
             let packed = self.packed(&mut random);
             store(&packed, &of_any_quants(&mut random), n);
-            store(&packed, &of_wrong_sums(&mut random), n);
-            store(&packed[1..], &of_wrong_sums(&mut random), n);
+            let mut wrong = of_readings(&mut random);
+            wrong.bsums[n % 8] += wrong_by;
+            store(&packed, &wrong, n);
+            store(&packed[1..], &wrong, n);
         }
     }
 }
@@ -305,8 +320,7 @@ fn sums_of(qs: &[i8; VALUES]) -> [i32; 8] {
 /// The Rust's block of up to 256 readings.
 fn of_readings(random: &mut Random) -> Q8Block {
     let len = [VALUES, random.below(VALUES + 1)][random.below(2)];
-    let quant::Q8Block { d, qs, bsums } = quant::quantize_block_q8(&row(random, len));
-    Q8Block { d, qs, bsums }
+    of_rust(quant::quantize_block_q8(&row(random, len)))
 }
 
 /// A block that no quantizer made: any quants, with their sums, and a scale of any kind.
