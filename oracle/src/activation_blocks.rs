@@ -177,28 +177,8 @@ struct BlockDot {
 const BLOCK_SCALES: [Draw<u16>; 3] = [trained_scale, SCALES[2], any_scale];
 
 /// How many places count: around each boundary that the Rust's loops have, and past a block.
-const COUNTS: [usize; 21] = [
-    0,
-    1,
-    15,
-    16,
-    17,
-    31,
-    32,
-    33,
-    63,
-    64,
-    65,
-    127,
-    128,
-    129,
-    191,
-    192,
-    193,
-    255,
-    256,
-    257,
-    usize::MAX,
+const COUNTS: [usize; 20] = [
+    0, 1, 15, 16, 17, 31, 32, 33, 63, 64, 65, 127, 128, 129, 191, 192, 193, 255, 256, 257,
 ];
 
 impl BlockDot {
@@ -214,11 +194,12 @@ impl BlockDot {
             let block = of_any_quants(&mut random);
             self.case(&self.packed(&mut random), &block, random.below(300))
         });
-        let counts = COUNTS.len() as u64 * 4_096;
-        comparison.cases("n around each boundary", counts, |number| {
+        let counts = (COUNTS.len() as u64 + 1) * 4_096;
+        comparison.cases("n around each boundary, and the most", counts, |number| {
             let mut random = Random::new(number);
             let block = of_readings(&mut random);
-            let n = COUNTS[number as usize / 4_096];
+            let n = COUNTS.get(number as usize / 4_096);
+            let n = n.copied().unwrap_or(usize::MAX);
             self.case(&self.packed(&mut random), &block, n)
         });
         comparison.cases("every half as a scale", 1 << 16, |half| {
@@ -297,7 +278,7 @@ impl BlockDot {
                 &floats(&[value]),
             ]);
         };
-        for n in COUNTS.into_iter().filter(|&n| n != usize::MAX) {
+        for n in COUNTS {
             let packed = self.packed(&mut random);
             store(&packed, &of_readings(&mut random), n);
         }

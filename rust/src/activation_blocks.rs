@@ -1,5 +1,5 @@
-//! Activation blocks: 256 readings become small integers with one float scale, and dots over them
-//! are exact in whole numbers up to the block's end.
+//! Activation blocks: up to 256 readings become small integers with one float scale, and a dot over
+//! them is a sum of whole numbers, which no order of adding changes.
 use crate::refusal::{answer, done, Refusal};
 use crate::row_dot::row_dot;
 use crate::sys::{self, BlockDot};
@@ -178,6 +178,24 @@ mod tests {
             dot_q4k_q8_block(&w[1..], &block, 0),
             Err(Refusal::WeightsShort)
         );
+    }
+
+    #[test]
+    fn a_refusal_writes_no_value() {
+        let w = q4_k(1, 0);
+        let block = all_127();
+        let dot = |sums: &[i32; 8]| {
+            let mut values = [7.0; 3];
+            let value = &mut values[1];
+            // SAFETY: the pointer and the length are a slice's, each part of the block is as long
+            // as the call takes it to be, and the value's place is no part of them.
+            let number = unsafe {
+                sys::jambharrow_dot_q4k_q8_block(w.as_ptr(), 144, 1.0, &block.qs, sums, 256, value)
+            };
+            (number, values)
+        };
+        assert_eq!(dot(&[0; 8]), (Refusal::WrongSums.number(), [7.0; 3]));
+        assert_eq!(dot(&block.bsums), (0, [7.0, 32.0 * 127.0, 7.0]));
     }
 
     #[test]

@@ -69,4 +69,21 @@ mod tests {
         let w = q6_k();
         assert_eq!(q6k_fused_f32_dot(&x, &w, 257), Err(Refusal::WeightsShort));
     }
+    #[test]
+    fn a_refusal_writes_no_value() {
+        let x = [1.0; 257];
+        let w = q4_k();
+        let dot = |n| {
+            let mut values = [7.0; 3];
+            let value = &mut values[1];
+            // SAFETY: each pointer and length is a slice's, and the value's place is no part of
+            // them.
+            let number = unsafe {
+                sys::jambharrow_canonical_dot_q4k_fused(x.as_ptr(), 257, w.as_ptr(), 144, n, value)
+            };
+            (number, values)
+        };
+        assert_eq!(dot(257), (Refusal::WeightsShort.number(), [7.0; 3]));
+        assert_eq!(dot(256), (0, [7.0, 32.0, 7.0]));
+    }
 }
