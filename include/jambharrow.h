@@ -18,7 +18,8 @@
  * NaN. Every other result has the bits that its contract says. Where a result is a NaN, the bits
  * may be those of any NaN.
  *
- * Stack. A call needs at most 512 bytes of stack, unless the words beside it say more.
+ * Stack. A call needs at most 1,024 bytes of stack, unless the words beside it say more. memcpy and
+ * memset, which the library takes from C, are not counted.
  */
 #ifndef JAMBHARROW_H
 #define JAMBHARROW_H
@@ -167,6 +168,66 @@ uint32_t jambharrow_canonical_dot_pub(const float *x, size_t x_len, const float 
  * with JAMBHARROW_TOO_LARGE where n is over JAMBHARROW_MOST_IN; then n = 0 is answered with +0.0;
  * then it refuses with JAMBHARROW_READINGS_SHORT where there are fewer than n readings. */
 uint32_t jambharrow_canonical_sum_pub(const float *x, size_t x_len, size_t n, float *value);
+
+/* Activation blocks: up to 256 readings become small integers with one float scale, and a dot over
+ * them is a sum of whole numbers, which no order of adding changes.
+ *
+ * A block is three parts, each where the caller has it: d, the scale; qs, 256 quants; and bsums, the
+ * sums of the quants, 32 to each. */
+
+/* The block of at most 256 readings. d is the largest magnitude over 127. A quant is a reading times
+ * the inverse of d, to the nearest whole number, within -127 to 127, and 0 past the readings. It
+ * refuses with JAMBHARROW_READINGS_SHORT where there are more than 256 readings, and then writes
+ * none of the three parts. It needs at most 2,048 bytes of stack. */
+uint32_t jambharrow_quantize_block_q8(const float *x, size_t x_len,
+                                      float *d, int8_t qs[256], int32_t bsums[8]);
+
+/* The dot of the Q4_K block at the front of w and an activation block:
+ * (w's d * d) * A - (w's dmin * d) * M. A is the sum of scale * nibble * quant over the places below
+ * n, above 256 taken as 256, and M that of minimum * sum over all eight sums; n = 0 has no short cut.
+ * Bytes behind the block are not looked at. It needs at most 2,048 bytes of stack. It refuses, in
+ * this order, with
+ *   JAMBHARROW_WEIGHTS_SHORT   fewer than 144 bytes;
+ *   JAMBHARROW_WRONG_SUMS      sums that are not the sums of the block's 32s. */
+uint32_t jambharrow_dot_q4k_q8_block(const uint8_t *w, size_t w_len,
+                                     float d, const int8_t qs[256], const int32_t bsums[8],
+                                     size_t n, float *value);
+
+/* The dot of the Q6_K block at the front of w and an activation block: (w's d * d) * B, where B is
+ * the sum of scale * (quant of w - 32) * quant over the places below n, above 256 taken as 256. The
+ * sums are not looked at, nor are bytes behind the block. It refuses with JAMBHARROW_WEIGHTS_SHORT
+ * where there are fewer than 210 bytes. */
+uint32_t jambharrow_dot_q6k_q8_block(const uint8_t *w, size_t w_len,
+                                     float d, const int8_t qs[256], const int32_t bsums[8],
+                                     size_t n, float *value);
+
+/* Dots of a row: the first n readings, and the first n weights of packed blocks.
+ *
+ * Each refuses, in this order, with
+ *   JAMBHARROW_TOO_LARGE          an n over JAMBHARROW_MOST_IN;
+ *   JAMBHARROW_NOT_WHOLE_BLOCKS   bytes that are not whole blocks;
+ * then n = 0 is answered with +0.0; then it refuses, in this order, with
+ *   JAMBHARROW_WEIGHTS_SHORT      blocks of fewer than n weights;
+ *   JAMBHARROW_READINGS_SHORT     fewer than n readings.
+ * Readings and whole blocks behind the first n places are not looked at. Each needs at most 4,096
+ * bytes of stack. */
+
+/* Q4_K, in whole numbers: each 256 readings are made an activation block, the last of fewer where n
+ * ends inside it, and the dots of the blocks, as jambharrow_dot_q4k_q8_block has them, meet in the
+ * tree. */
+uint32_t jambharrow_integer_dot_q4k(const float *x, size_t x_len, const uint8_t *w, size_t w_len,
+                                    size_t n, float *value);
+
+/* Q4_K, fused: what jambharrow_canonical_dot_pub answers for the decoded weights, with no room for
+ * them. */
+uint32_t jambharrow_canonical_dot_q4k_fused(const float *x, size_t x_len,
+                                            const uint8_t *w, size_t w_len,
+                                            size_t n, float *value);
+
+/* Q6_K, fused: the same. */
+uint32_t jambharrow_q6k_fused_f32_dot(const float *x, size_t x_len,
+                                      const uint8_t *w, size_t w_len,
+                                      size_t n, float *value);
 
 #ifdef __cplusplus
 }

@@ -1,6 +1,8 @@
 //! The calls that are measured.
 use crate::measure::Row;
-use crate::{binary16, block_decoders, block_quantizers, fixed_order_sums};
+use crate::{
+    activation_blocks, binary16, block_decoders, block_quantizers, fixed_order_sums, fused_dots,
+};
 
 pub struct Call {
     /// The name of the Rust's function.
@@ -10,7 +12,7 @@ pub struct Call {
 }
 
 /// Every call, in the order of the table.
-pub static CALLS: [Call; 13] = [
+pub static CALLS: [Call; 19] = [
     binary16::F16_TO_F32,
     binary16::F32_TO_F16,
     block_decoders::DEQUANTIZE_Q4_0,
@@ -24,4 +26,10 @@ pub static CALLS: [Call; 13] = [
     fixed_order_sums::CANONICAL_COMBINE,
     fixed_order_sums::CANONICAL_DOT_PUB,
     fixed_order_sums::CANONICAL_SUM_PUB,
+    activation_blocks::QUANTIZE_BLOCK_Q8,
+    activation_blocks::DOT_Q4K_Q8_BLOCK,
+    activation_blocks::DOT_Q6K_Q8_BLOCK,
+    activation_blocks::INTEGER_DOT_Q4K,
+    fused_dots::CANONICAL_DOT_Q4K_FUSED,
+    fused_dots::Q6K_FUSED_F32_DOT,
 ];

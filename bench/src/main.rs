@@ -1,10 +1,13 @@
 //! Measures Jambharrow beside the Rust and prints a table.
+mod activation_blocks;
 mod binary16;
 mod block_decoders;
 mod block_quantizers;
 mod calls;
 mod fixed_order_sums;
+mod fused_dots;
 mod measure;
+mod row_dots;
 
 use calls::{Call, CALLS};
 use measure::{measure, Row, ROUNDS};
@@ -17,8 +20,8 @@ most that this may be, and the word behind it says whether it is held. Neither s
 inlined where it is measured: ours is called through C, and the Rust through a pointer, so
 that each pays for one call. The Rust's block decoders put their values into a new vector,
 which is part of their time and cannot be taken out of them, as its block quantizers do with
-their bytes; to make and to drop such a
-vector takes the time in the column `vector`. Ours fill lent memory.";
+their bytes and its row dots with the sums of their chunks or blocks; to make and to drop a
+decoder's vector takes the time in the column `vector`. Ours fill lent memory.";
 
 fn main() -> ExitCode {
     let names: Vec<String> = env::args().skip(1).collect();
@@ -53,7 +56,7 @@ fn print_table(calls: &[&Call]) {
     println!("The median of {ROUNDS} rounds, in which both sides take turns, in one process.");
     println!();
     println!(
-        "{:<18} {:<30} {:>9} {:>9} {:>9} {:>9}  bar",
+        "{:<23} {:<30} {:>9} {:>9} {:>9} {:>9}  bar",
         "call", "input", "ours", "the Rust", "vector", "ours/Rust"
     );
     for call in calls {
@@ -75,7 +78,7 @@ fn print_row(name: &str, row: Row) {
         None => String::new(),
     };
     println!(
-        "{name:<18} {input:<30} {:>9} {:>9} {vector:>9} {ratio:>9.2}{bar}",
+        "{name:<23} {input:<30} {:>9} {:>9} {vector:>9} {ratio:>9.2}{bar}",
         nanoseconds(times.ours),
         nanoseconds(times.rust),
     );

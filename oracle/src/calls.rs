@@ -1,7 +1,9 @@
 //! The calls that are compared and sampled.
 use crate::compare::Comparison;
 use crate::sample::Records;
-use crate::{binary16, block_decoders, block_quantizers, fixed_order_sums};
+use crate::{
+    activation_blocks, binary16, block_decoders, block_quantizers, fixed_order_sums, fused_dots,
+};
 
 pub struct Call {
     /// The name of the Rust's function.
@@ -14,7 +16,7 @@ pub struct Call {
 
 /// Every call. A call's tag in the stored sample is its place here, so that a new one comes
 /// last.
-pub static CALLS: [Call; 13] = [
+pub static CALLS: [Call; 19] = [
     binary16::F16_TO_F32,
     binary16::F32_TO_F16,
     block_decoders::DEQUANTIZE_Q4_0,
@@ -28,4 +30,10 @@ pub static CALLS: [Call; 13] = [
     fixed_order_sums::CANONICAL_SUM_PUB,
     block_quantizers::QUANTIZE_Q4_0,
     block_quantizers::QUANTIZE_Q8_0,
+    activation_blocks::QUANTIZE_BLOCK_Q8,
+    activation_blocks::DOT_Q4K_Q8_BLOCK,
+    activation_blocks::DOT_Q6K_Q8_BLOCK,
+    activation_blocks::INTEGER_DOT_Q4K,
+    fused_dots::CANONICAL_DOT_Q4K_FUSED,
+    fused_dots::Q6K_FUSED_F32_DOT,
 ];

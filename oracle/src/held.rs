@@ -86,6 +86,26 @@ impl Place for u8 {
     }
 }
 
+impl Place for i8 {
+    fn bits(self) -> u32 {
+        (self as u8).into()
+    }
+
+    fn stands_for(self, other: i8) -> bool {
+        self == other
+    }
+}
+
+impl Place for i32 {
+    fn bits(self) -> u32 {
+        self as u32
+    }
+
+    fn stands_for(self, other: i32) -> bool {
+        self == other
+    }
+}
+
 /// Floats of all bits, another at each place: memory before it is lent.
 pub fn memory(len: usize) -> Vec<f32> {
     marks(len).map(f32::from_bits).collect()
@@ -94,6 +114,16 @@ pub fn memory(len: usize) -> Vec<f32> {
 /// Bytes, of which neighbours differ: memory before it is lent.
 pub fn bytes(len: usize) -> Vec<u8> {
     marks(len).map(|mark| (mark >> 24) as u8).collect()
+}
+
+/// Signed bytes, of which neighbours differ: memory before it is lent.
+pub fn signed_bytes(len: usize) -> Vec<i8> {
+    marks(len).map(|mark| (mark >> 24) as i8).collect()
+}
+
+/// Whole numbers of all bits, another at each place: memory before it is lent.
+pub fn whole_numbers(len: usize) -> Vec<i32> {
+    marks(len).map(|mark| mark as i32).collect()
 }
 
 fn marks(len: usize) -> impl Iterator<Item = u32> {

@@ -109,6 +109,12 @@ pub fn reading(random: &mut Random) -> f32 {
     float(random, 0x3A80_0000, 0x427F_FFFF)
 }
 
+/// A float of any kind.
+pub fn any_float(random: &mut Random) -> f32 {
+    let kinds = [MOST, SOME][random.below(2)];
+    kinds[random.below(kinds.len())](random)
+}
+
 /// A float of either sign, whose bits below the sign are from `low` to `high`.
 fn float(random: &mut Random, low: u32, high: u32) -> f32 {
     let sign = random.u32() & 0x8000_0000;

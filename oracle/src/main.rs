@@ -1,11 +1,14 @@
 //! Holds Jambharrow to the Rust, call by call, and stores a sample of the Rust's answers.
+mod activation_blocks;
 mod binary16;
 mod block_decoders;
 mod block_quantizers;
 mod calls;
 mod compare;
 mod fixed_order_sums;
+mod fused_dots;
 mod held;
+mod row_dots;
 mod sample;
 
 use calls::{Call, CALLS};

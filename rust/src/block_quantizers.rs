@@ -58,7 +58,10 @@ mod tests {
         let mut out = [0xEE; 33];
         let many = vec![0.0; MOST_FLOATS + 1];
         assert_eq!(quantize_q8_0(&many, &mut out), Err(Refusal::TooLarge));
-        assert_eq!(quantize_q8_0(&[0.0; 33], &mut out), Err(Refusal::NotAMultiple));
+        assert_eq!(
+            quantize_q8_0(&[0.0; 33], &mut out),
+            Err(Refusal::NotAMultiple)
+        );
         assert_eq!(quantize_q8_0(&[0.0; 32], &mut out), Err(Refusal::RoomShort));
         assert_eq!(out, [0xEE; 33]);
     }

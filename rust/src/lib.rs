@@ -7,13 +7,20 @@
 //! Where a result is a NaN, its bits may be those of any NaN; every other result has the bits of
 //! quant.rs, within the sizes below.
 
+mod activation_blocks;
 mod binary16;
 mod block_decoders;
 mod block_quantizers;
 mod fixed_order_sums;
+mod fused_dots;
 mod refusal;
+mod row_dot;
 mod sys;
 
+pub use activation_blocks::{
+    dot_q4k_q8_block, dot_q6k_q8_block, integer_dot_q4k, quantize_block_q8, quantize_block_q8_into,
+    Q8Block,
+};
 pub use binary16::{f16_to_f32, f32_to_f16};
 pub use block_decoders::{
     dequantize_q4_0, dequantize_q4_k, dequantize_q5_0, dequantize_q6_k, dequantize_q8_0,
@@ -22,6 +29,7 @@ pub use block_quantizers::{quantize_q4_0, quantize_q8_0};
 pub use fixed_order_sums::{
     canonical_chunk, canonical_combine, canonical_dot_pub, canonical_sum_pub,
 };
+pub use fused_dots::{canonical_dot_q4k_fused, q6k_fused_f32_dot};
 pub use refusal::Refusal;
 
 /// n and in_feat at most.

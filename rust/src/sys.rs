@@ -8,6 +8,21 @@ pub type Decoder = unsafe extern "C" fn(*const u8, usize, *mut f32, usize) -> u3
 /// A block quantizer.
 pub type Quantizer = unsafe extern "C" fn(*const f32, usize, *mut u8, usize) -> u32;
 
+/// The dot of a packed block and an activation block, whose parts are its scale, its quants and its
+/// sums.
+pub type BlockDot = unsafe extern "C" fn(
+    *const u8,
+    usize,
+    f32,
+    *const [i8; 256],
+    *const [i32; 8],
+    usize,
+    *mut f32,
+) -> u32;
+
+/// The dot of a row of readings and a row of packed blocks.
+pub type RowDot = unsafe extern "C" fn(*const f32, usize, *const u8, usize, usize, *mut f32) -> u32;
+
 unsafe extern "C" {
     pub safe fn jambharrow_f16_to_f32(half: u16) -> f32;
     pub safe fn jambharrow_f32_to_f16(bits: u32) -> u16;
@@ -75,6 +90,57 @@ unsafe extern "C" {
     pub fn jambharrow_canonical_sum_pub(
         x: *const f32,
         x_len: usize,
+        n: usize,
+        value: *mut f32,
+    ) -> u32;
+
+    pub fn jambharrow_quantize_block_q8(
+        x: *const f32,
+        x_len: usize,
+        d: *mut f32,
+        qs: *mut [i8; 256],
+        bsums: *mut [i32; 8],
+    ) -> u32;
+    pub fn jambharrow_dot_q4k_q8_block(
+        w: *const u8,
+        w_len: usize,
+        d: f32,
+        qs: *const [i8; 256],
+        bsums: *const [i32; 8],
+        n: usize,
+        value: *mut f32,
+    ) -> u32;
+    pub fn jambharrow_dot_q6k_q8_block(
+        w: *const u8,
+        w_len: usize,
+        d: f32,
+        qs: *const [i8; 256],
+        bsums: *const [i32; 8],
+        n: usize,
+        value: *mut f32,
+    ) -> u32;
+    pub fn jambharrow_integer_dot_q4k(
+        x: *const f32,
+        x_len: usize,
+        w: *const u8,
+        w_len: usize,
+        n: usize,
+        value: *mut f32,
+    ) -> u32;
+
+    pub fn jambharrow_canonical_dot_q4k_fused(
+        x: *const f32,
+        x_len: usize,
+        w: *const u8,
+        w_len: usize,
+        n: usize,
+        value: *mut f32,
+    ) -> u32;
+    pub fn jambharrow_q6k_fused_f32_dot(
+        x: *const f32,
+        x_len: usize,
+        w: *const u8,
+        w_len: usize,
         n: usize,
         value: *mut f32,
     ) -> u32;

@@ -1,7 +1,11 @@
 -- Each call has one answer: at the same arguments its contract holds of no two, and of no two of what it leaves in lent memory. Assumes nothing.
-use mathlib.Core.Path.{_≡_, ap}
 use denote.Ref.{now}
-use Rattle.refusals.proofs.Once.{OneResult, OneCall, same}
+use Rattle.refusals.proofs.Once.{OneResult, OneCall, same, both}
+use Rattle.exports.specs.Blocks.{blockIn}
+use Rattle.exports.proofs.activation_blocks.jambharrow_quantize_block_q8.Reads as quantize-block-q8
+use Rattle.exports.proofs.activation_blocks.jambharrow_dot_q4k_q8_block.Reads as dot-q4k-q8-block
+use Rattle.exports.proofs.activation_blocks.jambharrow_dot_q6k_q8_block.Reads as dot-q6k-q8-block
+use Rattle.exports.proofs.activation_blocks.jambharrow_integer_dot_q4k.Reads as integer-dot-q4k
 use Rattle.exports.proofs.binary16.jambharrow_f16_to_f32.Reads as f16-to-f32
 use Rattle.exports.proofs.binary16.jambharrow_f32_to_f16.Reads as f32-to-f16
 use Rattle.exports.proofs.block_decoders.jambharrow_dequantize_q4_0.Reads as dequantize-q4-0
@@ -15,10 +19,8 @@ use Rattle.exports.proofs.fixed_order_sums.jambharrow_canonical_chunk.R
 use Rattle.exports.proofs.fixed_order_sums.jambharrow_canonical_combine.Reads as canonical-combine
 use Rattle.exports.proofs.fixed_order_sums.jambharrow_canonical_dot_pub.Reads as canonical-dot-pub
 use Rattle.exports.proofs.fixed_order_sums.jambharrow_canonical_sum_pub.Reads as canonical-sum-pub
-
--- what is returned and what is left behind, where both pairs are one
-both : {A B : Type 0} (x y : A) (s t : B) (q : A × B) → (x, s) ≡ q → (y, t) ≡ q → (x ≡ y) × (s ≡ t)
-both {A = A} {B = B} x y s t q h k = let e = same h k in (ap (λ (p : A × B). p .0) e, ap (λ (p : A × B). p .1) e)
+use Rattle.exports.proofs.fused_dots.jambharrow_canonical_dot_q4k_fused.Reads as canonical-dot-q4k-fused
+use Rattle.exports.proofs.fused_dots.jambharrow_q6k_fused_f32_dot.Reads as q6k-fused-f32-dot
 
 pub f16-to-f32-once : OneResult f16-to-f32.Post
 f16-to-f32-once κs a x y s t h k = same h k
@@ -27,34 +29,53 @@ pub f32-to-f16-once : OneResult f32-to-f16.Post
 f32-to-f16-once κs a x y s t h k = same h k
 
 pub dequantize-q4-0-once : OneCall dequantize-q4-0.Post (λ κs s. now (s .1 .0))
-dequantize-q4-0-once κs a x y s t h k = both _ _ _ _ _ h k
+dequantize-q4-0-once κs a x y s t h k = both h k
 
 pub dequantize-q5-0-once : OneCall dequantize-q5-0.Post (λ κs s. now (s .1 .0))
-dequantize-q5-0-once κs a x y s t h k = both _ _ _ _ _ h k
+dequantize-q5-0-once κs a x y s t h k = both h k
 
 pub dequantize-q8-0-once : OneCall dequantize-q8-0.Post (λ κs s. now (s .1 .0))
-dequantize-q8-0-once κs a x y s t h k = both _ _ _ _ _ h k
+dequantize-q8-0-once κs a x y s t h k = both h k
 
 pub dequantize-q4-k-once : OneCall dequantize-q4-k.Post (λ κs s. now (s .1 .0))
-dequantize-q4-k-once κs a x y s t h k = both _ _ _ _ _ h k
+dequantize-q4-k-once κs a x y s t h k = both h k
 
 pub dequantize-q6-k-once : OneCall dequantize-q6-k.Post (λ κs s. now (s .1 .0))
-dequantize-q6-k-once κs a x y s t h k = both _ _ _ _ _ h k
+dequantize-q6-k-once κs a x y s t h k = both h k
 
 pub quantize-q4-0-once : OneCall quantize-q4-0.Post (λ κs s. now (s .1 .0))
-quantize-q4-0-once κs a x y s t h k = both _ _ _ _ _ h k
+quantize-q4-0-once κs a x y s t h k = both h k
 
 pub quantize-q8-0-once : OneCall quantize-q8-0.Post (λ κs s. now (s .1 .0))
-quantize-q8-0-once κs a x y s t h k = both _ _ _ _ _ h k
+quantize-q8-0-once κs a x y s t h k = both h k
 
 pub canonical-chunk-once : OneCall canonical-chunk.Post (λ κs s. now (s .1 .1 .0))
-canonical-chunk-once κs a x y s t h k = both _ _ _ _ _ h k
+canonical-chunk-once κs a x y s t h k = both h k
 
 pub canonical-combine-once : OneCall canonical-combine.Post (λ κs s. now (s .0))
-canonical-combine-once κs a x y s t h k = both _ _ _ _ _ h k
+canonical-combine-once κs a x y s t h k = both h k
 
 pub canonical-dot-pub-once : OneCall canonical-dot-pub.Post (λ κs s. now (s .1 .1 .1 .0))
-canonical-dot-pub-once κs a x y s t h k = both _ _ _ _ _ h k
+canonical-dot-pub-once κs a x y s t h k = both h k
 
 pub canonical-sum-pub-once : OneCall canonical-sum-pub.Post (λ κs s. now (s .1 .1 .0))
-canonical-sum-pub-once κs a x y s t h k = both _ _ _ _ _ h k
+canonical-sum-pub-once κs a x y s t h k = both h k
+
+-- the number, and the block that is left in the three places
+pub quantize-block-q8-once : OneCall quantize-block-q8.Post (λ κs s. blockIn (now (s .1 .0)) (now (s .1 .1 .0)) (now (s .1 .1 .1 .0)))
+quantize-block-q8-once κs a x y s t h k = both h k
+
+pub dot-q4k-q8-block-once : OneCall dot-q4k-q8-block.Post (λ κs s. now (s .1 .1 .1 .1 .1 .0))
+dot-q4k-q8-block-once κs a x y s t h k = both h k
+
+pub dot-q6k-q8-block-once : OneCall dot-q6k-q8-block.Post (λ κs s. now (s .1 .1 .1 .1 .1 .0))
+dot-q6k-q8-block-once κs a x y s t h k = both h k
+
+pub integer-dot-q4k-once : OneCall integer-dot-q4k.Post (λ κs s. now (s .1 .1 .1 .0))
+integer-dot-q4k-once κs a x y s t h k = both h k
+
+pub canonical-dot-q4k-fused-once : OneCall canonical-dot-q4k-fused.Post (λ κs s. now (s .1 .1 .1 .0))
+canonical-dot-q4k-fused-once κs a x y s t h k = both h k
+
+pub q6k-fused-f32-dot-once : OneCall q6k-fused-f32-dot.Post (λ κs s. now (s .1 .1 .1 .0))
+q6k-fused-f32-dot-once κs a x y s t h k = both h k

@@ -19,6 +19,10 @@ module _ {L : Type 0} {A R S : L → Type 0} where
 pub same : {A : Type 0} {x y z : A} → x ≡ z → y ≡ z → x ≡ y
 same h k = h ∙ sym k
 
+-- what is returned and what is left behind, where both pairs are one
+pub both : {A B : Type 0} {x y : A} {s t : B} {q : A × B} → (x, s) ≡ q → (y, t) ≡ q → (x ≡ y) × (s ≡ t)
+both {A = A} {B = B} h k = let e = same h k in (ap (λ (p : A × B). p .0) e, ap (λ (p : A × B). p .1) e)
+
 -- `saidBy` tells any two answers apart
 pub one-answer : (x y : Answer) → saidBy x ≡ saidBy y → x ≡ y
 one-answer (answer.Value v) (answer.Value w) e = cc
@@ -35,4 +39,4 @@ one-outcome (outcome.Refused num) (outcome.Refused other) e = cc
 
 -- a call that fills lent memory: what it says and what it leaves, both
 pub one-filled : {M : Type 0} (x y : Outcome) {m n : M} {z : Said × M} → (outcomeSays x, m) ≡ z → (outcomeSays y, n) ≡ z → (x ≡ y) × (m ≡ n)
-one-filled {M} x y h k = let e = same h k in (one-outcome x y (ap (λ (p : Said × M). p .0) e), ap (λ (p : Said × M). p .1) e)
+one-filled x y h k = let e = both h k in (one-outcome x y (e .0), e .1)

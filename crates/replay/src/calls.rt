@@ -1,10 +1,12 @@
 // The calls that are replayed, by their tags. A call's tag is its place in the oracle's list of calls.
+use crate::activation_blocks::judge_activation_block;
 use crate::binary16::judge_binary16;
 use crate::block_decoders::judge_block_decoder;
 use crate::block_quantizers::judge_block_quantizer;
 use crate::findings::Finding;
 use crate::fixed_order_sums::judge_fixed_order_sum;
 use crate::report::print_name;
+use crate::row_dots::judge_row_dot;
 
 // The tag of a record whose payload is the name of the call before it.
 const NAME: u8 = 255;
@@ -16,6 +18,8 @@ pub fn judge(tag: u8, payload: &[u8]) -> Finding {
         2..=6 => judge_block_decoder(tag, payload),
         7..=10 => judge_fixed_order_sum(tag, payload),
         11..=12 => judge_block_quantizer(tag, payload),
+        13..=15 => judge_activation_block(tag, payload),
+        16..=18 => judge_row_dot(tag, payload),
         NAME => {
             print_name(payload);
             Finding::Name

@@ -7,15 +7,18 @@
 //
 // For each call a line says how many answers were replayed, and how many of ours differ: neither the same bits nor both NaN. Where the sample
 // cannot be read on, a last line says why, and at which byte.
+mod activation_blocks;
 mod binary16;
 mod block_decoders;
 mod block_quantizers;
+mod blocks;
 mod calls;
 mod findings;
 mod fixed_order_sums;
 mod payload;
 mod records;
 mod report;
+mod row_dots;
 
 use findings::Finding;
 

@@ -18,6 +18,11 @@ pub fn u32_at(payload: &[u8], at: usize) -> u32 {
     )
 }
 
+// The byte at a place; 0 where the payload ends before it.
+pub fn byte_at(payload: &[u8], at: usize) -> u8 {
+    if at < payload.len() { payload[at] } else { 0 }
+}
+
 // The payload's first floats, as many as there are places for them.
 pub fn read_floats(payload: &[u8], out: &mut [f32]) {
     let mut i: usize = 0;

@@ -1,9 +1,6 @@
 -- Each call has one answer: at the same arguments its contract holds of no two. Assumes nothing.
-use mathlib.Core.Path.{ap}
-use mathlib.Core.List.{List}
-use lib.Ieee.{Float}
 use denote.Ref.{now}
-use Rattle.refusals.proofs.Once.{OneResult, OneCall, same, one-answer}
+use Rattle.refusals.proofs.Once.{OneResult, OneCall, same, both, one-answer}
 use Rattle.sums.proofs.tree.canonical_combine.Reads as combine
 use Rattle.sums.proofs.lanes.canonical_chunk.Reads as chunk
 use Rattle.sums.proofs.dot.canonical_dot_pub.Reads as dot
@@ -11,7 +8,7 @@ use Rattle.sums.proofs.sum.canonical_sum_pub.Reads as sum
 
 -- `canonical_combine`: its result, and the list that it leaves in its caller's slice
 pub combine-once : OneCall combine.Post (λ κs s. now (s .0))
-combine-once κs a x y s t h k = let e = same h k in (ap (λ (q : Float × List Float). q .0) e, ap (λ (q : Float × List Float). q .1) e)
+combine-once κs a x y s t h k = both h k
 
 pub chunk-once : OneResult chunk.Post
 chunk-once κs a x y s t h k = one-answer x y (same h k)

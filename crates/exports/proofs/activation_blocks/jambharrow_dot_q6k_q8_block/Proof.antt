@@ -1,0 +1,20 @@
+-- `activation_blocks::jambharrow_dot_q6k_q8_block` meets its contract. Assumes nothing.
+use borrow.Author.Needs.{needs}
+use Rattle.exports.proofs.activation_blocks.jambharrow_dot_q6k_q8_block.Statement.{statement}
+use Rattle.exports.proofs.activation_blocks.jambharrow_dot_q6k_q8_block.Tie as tie
+
+block-in-requires : tie.Need-block-in-requires
+block-in-requires c κs = search needs
+
+dot-q6k-q8-block-requires : tie.Need-dot-q6k-q8-block-requires
+dot-q6k-q8-block-requires c κs = search needs
+
+lay-out-requires : tie.Need-lay-out-requires
+lay-out-requires c κs = search needs
+
+returns : tie.Need-returns
+returns c = cc
+
+pub jambharrow-dot-q6k-q8-block-spec : {M : Type 1} → statement M
+jambharrow-dot-q6k-q8-block-spec =
+    tie.close (tie.spec block-in-requires dot-q6k-q8-block-requires lay-out-requires returns)

@@ -1,0 +1,31 @@
+//! The fused dots.
+use crate::calls::Call;
+use crate::row_dots::RowDot;
+use oracle::inputs;
+use oracle::ops::quant;
+
+pub const CANONICAL_DOT_Q4K_FUSED: Call = Call {
+    name: "canonical_dot_q4k_fused",
+    compare: |comparison| Q4_K.compare(comparison),
+    sample: |records| Q4_K.sample(records),
+};
+
+pub const Q6K_FUSED_F32_DOT: Call = Call {
+    name: "q6k_fused_f32_dot",
+    compare: |comparison| Q6_K.compare(comparison),
+    sample: |records| Q6_K.sample(records),
+};
+
+const Q4_K: RowDot = RowDot {
+    layout: inputs::Q4_K,
+    rust: quant::canonical_dot_q4k_fused,
+    ours: jambharrow::canonical_dot_q4k_fused,
+    adds_up_short_rows: true,
+};
+
+const Q6_K: RowDot = RowDot {
+    layout: inputs::Q6_K,
+    rust: quant::q6k_fused_f32_dot,
+    ours: jambharrow::q6k_fused_f32_dot,
+    adds_up_short_rows: false,
+};
