@@ -1,13 +1,14 @@
 -- Counts of open marks. Assumes nothing.
-use Prim.Native.Nat.{ℕ, zero, suc, _+_, _-_, _*_, _<_}
+use Prim.Native.Nat.{ℕ, zero, suc, _+_, _<_}
 use mathlib.Core.Path.{_≡_, refl, _∙_}
 use mathlib.Core.List.{List, [], _∷_, _++_}
 use native.Mathlib.Numerals.{add-one}
 use native.Mathlib.Omega.{arith}
-use lib.ListN.{length, getD, take, drop, set, length-take}
+use lib.ListN.{length, getD, take, set, length-take}
 use lib.Seq.{take-suc, take-set-lt, getD-take}
-use Rattle.memory.specs.Lists.{part}
+use Rattle.memory.specs.Lists.{table}
 use Rattle.stepped.specs.Layer.{isOpen, openCount}
+use Rattle.stepped.specs.Calls.{noMark}
 
 open-append : (a b : List ℕ) → openCount (a ++ b) ≡ openCount a + openCount b
 unfolding openCount
@@ -34,8 +35,8 @@ open-set-take ms n i h hl z =
 pub none-open : (ms : List ℕ) (i : ℕ) → openCount ms ≡ 0 → i < length ms → getD ms i 0 ≡ 0 → ⊥
 none-open ms i e h z = omega (arith, open-set ms i h z)
 
--- a row's marks, as the code's start and end give them
-pub row-part : {A : Type 0} (xs : List A) (row n m : ℕ) → n ≡ m → take (row * n + n - row * n) (drop (row * n) xs) ≡ part xs (row * m) m
-row-part xs row n m e =
-    let g : row * m + m - row * m ≡ m = omega arith in
-    rw (e, g)
+-- cleared marks are open
+pub all-open : (n : ℕ) → openCount (table noMark n) ≡ n
+unfolding openCount table
+all-open zero = refl
+all-open (suc n) = open-append (table noMark n) (0 ∷ []) ∙ omega (arith, all-open n)

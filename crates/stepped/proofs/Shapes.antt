@@ -1,6 +1,6 @@
 -- What follows where a call's checks give no number: the layer's shape, its room, and where its pieces and rows lie. Assumes nothing.
 use Prim.Native.Nat.{ℕ, _+_, _*_, _/_, _%_, _≤_, _<_}
-use mathlib.Core.Path.{_≡_, sym, _∙_}
+use mathlib.Core.Path.{_≡_}
 use mathlib.Core.Bool.{true}
 use mathlib.Core.List.{List}
 use native.Mathlib.Omega.{arith}
@@ -13,6 +13,7 @@ use Rattle.refusals.proofs.Laws.{given-none, else-none}
 use Rattle.memory.proofs.Parts.{within}
 use Rattle.layouts.specs.Formats.{bytesK, knownFormat, formatOf}
 use Rattle.layouts.specs.Weights.{valuesOf}
+use Rattle.layouts.specs.declared.format.FormatK.{FormatK}
 use Rattle.layouts.specs.declared.format.Format.the-variants.{OfK}
 use Rattle.layouts.proofs.Sizes.{sizes}
 use Rattle.stepped.specs.declared.shape.Layer.{Layer}
@@ -58,12 +59,16 @@ module _ (l : Layer) (ok : shapeNo l ≡ 0) where
   small-need = mul-le-mul (shaped l ok .outputs) small-row
 
   -- a row's bytes have its weights
-  pub row-weights : l .«in_feat» ≤ valuesOf (OfK (formatOf (l .format))) (rowBytes l)
+  row-weights : l .«in_feat» ≤ valuesOf (OfK (formatOf (l .format))) (rowBytes l)
   unfolding rowBytes
   row-weights =
       let z = bytesK (formatOf (l .format)) in
       let P : 0 < z = omega (arith, sizes (OfK (formatOf (l .format)))) in
       rw (mul-div-cancel (l .«in_feat» / 256) P) (omega (arith, shaped l ok .whole))
+
+-- so do as many bytes, by the same format
+pub row-enough : (l : Layer) → shapeNo l ≡ 0 → (f : FormatK) (k : ℕ) → f ≡ formatOf (l .format) → k ≡ rowBytes l → l .«in_feat» ≤ valuesOf (OfK f) k
+row-enough l ok f k F K = rw (F, K) (row-weights l ok)
 
 -- ---- where pieces and rows lie
 

@@ -1,5 +1,5 @@
 -- What the four calls say and what lent memory holds then: functions of the layer, its weights and readings, and the lists that came in. Definitions only.
-use Prim.Native.Nat.{ℕ, zero, suc, _+_, _*_, min}
+use Prim.Native.Nat.{ℕ, zero, suc, _+_, min}
 use mathlib.Core.Bool.{_&&_, cond}
 use mathlib.Core.List.{List}
 use lib.Dec.{ltb, eqb}

@@ -37,8 +37,7 @@ pub(crate) fn work_one(
     slots: &mut [f32],
     marks: &mut [u8],
 )
-    requires { ⌜ Ready l (length (now w)) (length (now x)) × InLayer l row chunk ⌝ }
-    requires { ⌜ Room l (length (now slots)) (length (now marks)) ⌝ }
+    requires { ⌜ Ready l (length (now w)) (length (now x)) × Room l (length (now slots)) (length (now marks)) × InLayer l row chunk ⌝ }
     ensures { λ _. ⌜ now (slots .exit) ≡ worked l (now (w .entry)) (now (x .entry)) row chunk (now (slots .entry)) ⌝ }
     ensures { λ _. ⌜ now (marks .exit) ≡ marked l row chunk (now (marks .entry)) ⌝ }
 {

@@ -1,7 +1,7 @@
 // A layer's shape: its pieces, and where their slots, their marks and their rows' weights lie.
 use layouts::Format;
 ghost use mathlib.Core.Path.{_≡_};
-ghost use Prim.Native.Nat.{_<_, _≤_};
+ghost use Prim.Native.Nat.{_<_};
 ghost use Rattle.refusals.specs.Refusals.{none};
 ghost use Rattle.stepped.specs.Layer.{chunks, pieces, place, rowBytes, weightNeed};
 ghost use Rattle.stepped.specs.Refusals.{shapeNo};

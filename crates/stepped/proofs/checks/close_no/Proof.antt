@@ -11,7 +11,7 @@ use Rattle.refusals.proofs.Laws.{given-yes, given-no, else-first, else-later}
 use Rattle.stepped.specs.Layer.{chunks, pieces, openCount, openInRow}
 use Rattle.stepped.specs.Refusals.{openNo, closeNo}
 use Rattle.stepped.proofs.Shapes.{openable, row-within, few-pieces}
-use Rattle.stepped.proofs.Marks.{row-part}
+use Rattle.stepped.proofs.Lists.{row-part}
 use Rattle.stepped.proofs.checks.close_no.Statement.{statement}
 use Rattle.stepped.proofs.checks.close_no.Tie as tie
 
@@ -47,7 +47,7 @@ row-in : (c : tie.After-chunks-of) → let a = start c .args in
 row-in c =
     let a = start c .args in
     let r = openable _ _ _ (able (c .before .before .before .before .before)) in
-    (rw (c .chunks-of .ensures) (row-within (a .l) (a .row) (c .before .if3 .left)), r .has-room .marks-enough, few-pieces _ (r .shape))
+    (simp (c .chunks-of .ensures) (row-within (a .l) (a .row) (c .before .if3 .left)), r .has-room .marks-enough, few-pieces _ (r .shape))
 
 mul-at : tie.Need-mul-at
 mul-at c = omega (arith, row-in c)

@@ -2,12 +2,12 @@
 use native.Mathlib.Omega.{arith}
 use borrow.Author.Tests.{eq-eqb, ne-eqb}
 use mathlib.Core.Logic.{⊎-elim}
-use mathlib.Core.Path.{_≡_, refl, sym, _∙_, ap}
-use Prim.Native.Nat.{_≤_, _<_, _-_, _+_}
+use mathlib.Core.Path.{_≡_, refl, _∙_, ap}
+use Prim.Native.Nat.{_≤_, _<_, _-_}
 use denote.Ref.{now}
 use lib.ListN.{length, take}
 use lib.Seq.{take-all}
-use Rattle.stepped.specs.Layer.{openCount, isOpen}
+use Rattle.stepped.specs.Layer.{openCount}
 use Rattle.stepped.proofs.Marks.{open-more}
 use Rattle.stepped.proofs.checks.count_open.Statement.{statement}
 use Rattle.stepped.proofs.checks.count_open.Tie as tie
