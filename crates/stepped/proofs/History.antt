@@ -1,12 +1,12 @@
 -- Demand 3: after any calls, each closed row has the bits of its dot in one go, and pieces accepted plus pieces open is the layer's piece count. Assumes nothing.
 use Prim.Native.Nat.{ℕ, zero, suc, _*_, _≤_, _<_}
-use mathlib.Core.Path.{_≡_, refl, sym, ap, _∙_}
+use mathlib.Core.Path.{_≡_, sym, ap, _∙_}
 use mathlib.Core.Logic.{⊎-elim}
 use mathlib.Core.List.{List, [], _∷_, List·Memᴰ, List·Memᴰ·cases-cons, List·Memᴰ·not-nil}
 use native.Mathlib.Omega.{arith}
 use native.Mathlib.Nat.{suc-mul, mul-le-mul-right, le-refl}
 use native.Mathlib.Decide.{decLt, ℕ-discrete}
-use lib.ListN.{length, getD, take, drop, set, length-set, length-take, length-drop, List·getD-append}
+use lib.ListN.{length, getD, drop, set, length-set, length-take, length-drop, List·getD-append}
 use lib.Seq.{getD-set-same, getD-set-other, take-at}
 use lib.Ieee.{Float, nan}
 use Rattle.refusals.specs.Said.{done}
@@ -61,7 +61,7 @@ row-of-sums l w x row =
 
 module _ (l : Layer) (w : List ℕ) (x : List Float) where
   -- slots and marks fit the layer, and the slot of a piece that is done holds its chunk's sum
-  pub record Held (slots : List Float) (marks : List ℕ) : Type 0 where
+  record Held (slots : List Float) (marks : List ℕ) : Type 0 where
     pub slots-fit : pieces l ≤ length slots
     pub marks-fit : pieces l ≤ length marks
     pub held : (row c : ℕ) → InLayer l row c → (getD marks (place l row c) 0 ≡ 0 → ⊥) → getD slots (place l row c) nan ≡ sumAt l w x row c
@@ -129,7 +129,7 @@ module _ (l : Layer) (w : List ℕ) (x : List Float) where
       ∙ row-of-sums l w x row
 
   -- what every call keeps
-  pub record Good (s : State) : Type 0 where
+  record Good (s : State) : Type 0 where
     pub holds : Held (s .slots) (s .marks)
     pub demand : Demand3 l w x s
 

@@ -4,14 +4,13 @@ use mathlib.Core.Path.{_≡_, refl, sym, _∙_, ap}
 use mathlib.Core.List.{List}
 use native.Mathlib.Omega.{arith}
 use native.Mathlib.Numerals.{add-one}
-use native.Mathlib.Nat.{zero-add, suc-add}
-use lib.ListN.{length, getD, set, length-set}
-use lib.Dec.{ltb, eqb}
+use native.Mathlib.Nat.{zero-add, suc-add, le-refl}
+use lib.ListN.{length, getD, length-set}
 use lib.Ieee.{Float}
 use borrow.Author.Tests.{eq-eqb, ne-eqb, lt-ltb, le-ltb}
 use Rattle.stepped.specs.declared.shape.Layer.{Layer}
 use Rattle.stepped.specs.Layer.{chunks, place}
-use Rattle.stepped.specs.Calls.{Work, work, sumAt, visit, visitRow, visitRows}
+use Rattle.stepped.specs.Calls.{Work, work, worked, marked, visit, visitRow, visitRows}
 
 -- what the loops keep: both lists' lengths, at most the budget, and the state that the visits so far give
 pub record Kept (budget : ℕ) (slots₀ : List Float) (marks₀ : List ℕ) (slots : List Float) (marks : List ℕ) (done : ℕ) (k : Work) : Type 0 where
@@ -20,12 +19,14 @@ pub record Kept (budget : ℕ) (slots₀ : List Float) (marks₀ : List ℕ) (sl
   pub few : done ≤ budget
   pub state : work slots marks done ≡ k
 
+-- a budget that is not spent
 pub ne-lt : (a b : ℕ) → a ≤ b → (a ≡ b → ⊥) → a < b
 ne-lt a b h n = omega arith
 
 module _ (l : Layer) (w : List ℕ) (x : List Float) (budget : ℕ) where
+  -- a visit, by what it finds: an open piece, a piece that is done, a budget that is spent
   pub visit-open : (row c : ℕ) (s : List Float) (m : List ℕ) (d : ℕ) → d < budget → getD m (place l row c) 0 ≡ 0
-      → visit l w x budget row c (work s m d) ≡ work (set s (place l row c) (sumAt l w x row c)) (set m (place l row c) 1) (d + 1)
+      → visit l w x budget row c (work s m d) ≡ work (worked l w x row c s) (marked l row c m) (d + 1)
   unfolding visit
   visit-open row c s m d h z = simp (lt-ltb _ _ h, eq-eqb _ _ z)
 
@@ -38,27 +39,23 @@ module _ (l : Layer) (w : List ℕ) (x : List Float) (budget : ℕ) where
   unfolding visit
   visit-over row c s m d h = simp (le-ltb d budget h)
 
-  pub visit-spent : (row c : ℕ) (s : List Float) (m : List ℕ) → visit l w x budget row c (work s m budget) ≡ work s m budget
-  unfolding visit
-  visit-spent row c s m = simp (le-ltb budget budget (omega arith))
-
   -- one more chunk, one more row, in the code's terms
-  pub row-more : (row n : ℕ) (k : Work) → visitRow l w x budget row (n + 1) k ≡ visit l w x budget row n (visitRow l w x budget row n k)
+  row-more : (row n : ℕ) (k : Work) → visitRow l w x budget row (n + 1) k ≡ visit l w x budget row n (visitRow l w x budget row n k)
   unfolding visitRow
   row-more row n k = rw add-one
 
-  pub rows-more : (n : ℕ) (k : Work) → visitRows l w x budget (n + 1) k ≡ visitRow l w x budget n (chunks l) (visitRows l w x budget n k)
+  rows-more : (n : ℕ) (k : Work) → visitRows l w x budget (n + 1) k ≡ visitRow l w x budget n (chunks l) (visitRows l w x budget n k)
   unfolding visitRows
   rows-more n k = rw add-one
 
   -- once the budget is spent, nothing more is done
-  pub row-spent : (row n m : ℕ) (k : Work) (s : List Float) (ms : List ℕ) → visitRow l w x budget row n k ≡ work s ms budget
+  row-spent : (row n m : ℕ) (k : Work) (s : List Float) (ms : List ℕ) → visitRow l w x budget row n k ≡ work s ms budget
       → visitRow l w x budget row (m + n) k ≡ work s ms budget
   unfolding visitRow
   row-spent row n zero k s ms h = simp (zero-add n) h
-  row-spent row n (suc m) k s ms h = simp (suc-add m n, row-spent row n m k s ms h) (visit-spent row (m + n) s ms)
+  row-spent row n (suc m) k s ms h = simp (suc-add m n, row-spent row n m k s ms h) (visit-over row (m + n) s ms budget (le-refl budget))
 
-  pub rows-spent : (n m : ℕ) (k : Work) (s : List Float) (ms : List ℕ) → visitRows l w x budget n k ≡ work s ms budget
+  rows-spent : (n m : ℕ) (k : Work) (s : List Float) (ms : List ℕ) → visitRows l w x budget n k ≡ work s ms budget
       → visitRows l w x budget (m + n) k ≡ work s ms budget
   unfolding visitRows visitRow
   rows-spent n zero k s ms h = simp (zero-add n) h
@@ -66,7 +63,7 @@ module _ (l : Layer) (w : List ℕ) (x : List Float) (budget : ℕ) where
     where
       all : (j : ℕ) → visitRow l w x budget (m + n) j (work s ms budget) ≡ work s ms budget
       all zero = refl
-      all (suc j) = simp (all j) (visit-spent (m + n) j s ms)
+      all (suc j) = simp (all j) (visit-over (m + n) j s ms budget (le-refl budget))
 
   -- left in the middle of a row, at a spent budget: that is the state after all rows
   pub stopped : (rows row c : ℕ) (k : Work) (s : List Float) (ms : List ℕ) → row < rows → c ≤ chunks l
@@ -81,7 +78,7 @@ module _ (l : Layer) (w : List ℕ) (x : List Float) (budget : ℕ) where
   -- a turn of the inner loop: the piece was open and is worked, or was done before
   pub kept-open : (s₀ : List Float) (m₀ : List ℕ) (s : List Float) (m : List ℕ) (d row c : ℕ) (k : Work)
       → Kept budget s₀ m₀ s m d (visitRow l w x budget row c k) → d < budget → getD m (place l row c) 0 ≡ 0
-      → Kept budget s₀ m₀ (set s (place l row c) (sumAt l w x row c)) (set m (place l row c) 1) (d + 1) (visitRow l w x budget row (c + 1) k)
+      → Kept budget s₀ m₀ (worked l w x row c s) (marked l row c m) (d + 1) (visitRow l w x budget row (c + 1) k)
   kept-open s₀ m₀ s m d row c k h f z = record {
     slots-len = simp length-set (h .slots-len);
     marks-len = simp length-set (h .marks-len);

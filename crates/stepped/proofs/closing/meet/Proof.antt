@@ -10,7 +10,7 @@ use denote.Ref.{now}
 use Rattle.memory.specs.Lists.{table}
 use Rattle.memory.proofs.Filled.{Filling, filling-start, filling-more}
 use Rattle.sums.specs.Tree.{tree}
-use Rattle.stepped.specs.Layer.{chunks, pieces, place}
+use Rattle.stepped.specs.Layer.{pieces, place}
 use Rattle.stepped.specs.Calls.{rowMet}
 use Rattle.stepped.proofs.Lists.{filled-front}
 use Rattle.stepped.proofs.Shapes.{row-within, few-chunks, few-pieces}

@@ -4,11 +4,9 @@ use native.Mathlib.Omega.{arith}
 use mathlib.Core.Logic.{⊎-elim}
 use mathlib.Core.Path.{_≡_, refl, sym, _∙_, ap}
 use Prim.Native.Nat.{ℕ, _≤_, _<_, _-_}
-use lib.ListN.{length}
 use denote.Ref.{now}
-use Rattle.stepped.specs.Layer.{place}
 use Rattle.stepped.specs.Ready.{InLayer}
-use Rattle.stepped.specs.Calls.{Work, work, visit, visitRow, visitRows, runWork}
+use Rattle.stepped.specs.Calls.{Work, work, visitRow, visitRows, runWork}
 use Rattle.stepped.proofs.Shapes.{place-within}
 use Rattle.stepped.proofs.Runs.{Kept, kept-open, kept-done, kept-row, stopped, ne-lt}
 use Rattle.stepped.proofs.running.work_open.Statement.{statement}
