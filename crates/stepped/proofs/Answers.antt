@@ -5,8 +5,8 @@ use native.Mathlib.Omega.{arith}
 use Rattle.refusals.specs.Said.{done, refused}
 use Rattle.refusals.specs.Refusals.{carriedOut}
 use Rattle.refusals.proofs.Laws.{carried-done, carried-refused}
-use Rattle.stepped.specs.Calls as said
-use Rattle.stepped.specs.Calls.{ran, ranOut}
+use Rattle.stepped.specs.Says as said
+use Rattle.stepped.specs.Says.{ran, ranOut}
 
 -- open, piece and close, whose checks give num: no is what the code has of it
 module _ {A : Type 0} (num no : ℕ) (new old : A) (e : no ≡ num) where

@@ -12,7 +12,7 @@ use borrow.Author.Tests.{eq-eqb, ne-eqb}
 use Rattle.stepped.specs.declared.shape.Layer.{Layer}
 use Rattle.stepped.specs.Layer.{chunks, pieces, place, openCount, openOf}
 use Rattle.stepped.specs.Refusals.{workNo}
-use Rattle.stepped.specs.Calls.{Work, work, marksOf, worked, marked, visit, visitRow, visitRows, runWork, ran, runCall}
+use Rattle.stepped.specs.Says.{Work, work, marksOf, worked, marked, visit, visitRow, visitRows, runWork, ran, runSays}
 use Rattle.stepped.proofs.Shapes.{workable}
 use Rattle.stepped.proofs.Answers.{ran-done}
 use Rattle.stepped.proofs.Marks.{open-more, open-set-take}
@@ -114,8 +114,8 @@ pub run-done : (l : Layer) (w : List ℕ) (x : List Float) (budget : ℕ) (slots
     → workNo l (length w) (length x) (length slots) (length marks) ≡ 0
     → work slots' marks' did ≡ runWork l w x budget slots marks
     → left ≡ openOf l marks'
-    → (ran did left, (slots', marks')) ≡ runCall l w x budget slots marks
-unfolding runCall doneOf
+    → (ran did left, (slots', marks')) ≡ runSays l w x budget slots marks
+unfolding runSays doneOf
 run-done l w x budget slots marks slots' marks' did left h e g =
     let r = run-counts l w x budget marks slots (workable _ _ _ _ _ h .has-room .marks-enough) in
     let d : did ≡ min budget (openOf l marks) = ap doneOf e ∙ r .did in

@@ -23,8 +23,8 @@ use Rattle.stepped.specs.declared.shape.Layer.{Layer}
 use Rattle.stepped.specs.Layer.{chunks, pieces, place, rowOf, openOf, openInRow}
 use Rattle.stepped.specs.Refusals.{openNo, workNo, pieceNo, closeNo}
 use Rattle.stepped.specs.Ready.{InLayer}
-use Rattle.stepped.specs.Calls.{noSum, noMark, Work, work, slotsOf, marksOf, sumAt, worked, marked, visit, visitRow, visitRows, runWork, openCall, pieceCall, runCall, rowMet, closeCall}
-use Rattle.stepped.specs.History.{decodedRow, rowDot, Call, piece, run, close, State, call, calls, opened, Demand3}
+use Rattle.stepped.specs.Says.{noSum, noMark, Work, work, slotsOf, marksOf, sumAt, worked, marked, visit, visitRow, visitRows, runWork, openSays, pieceSays, runSays, rowMet, closeSays}
+use Rattle.stepped.specs.History.{decodedRow, inOneGo, Call, piece, run, close, State, call, calls, opened, Demand3}
 use Rattle.stepped.proofs.Shapes.{place-within, row-within, openable, pieceable, closable}
 use Rattle.stepped.proofs.Marks.{open-set-take, none-open, all-open}
 use Rattle.stepped.proofs.Answers.{ran-done, ran-refused}
@@ -52,8 +52,8 @@ same-chunk l r c r' c' g e =
 
 -- ---- a row whose slots are its chunk sums meets in its dot in one go
 
-row-of-sums : (l : Layer) (w : List ℕ) (x : List Float) (row : ℕ) → tree (table (sumAt l w x row) (chunks l)) ≡ rowDot l w x row
-unfolding sumAt chunks rowSum rowDot decodedRow
+row-of-sums : (l : Layer) (w : List ℕ) (x : List Float) (row : ℕ) → tree (table (sumAt l w x row) (chunks l)) ≡ inOneGo l w x row
+unfolding sumAt chunks rowSum inOneGo decodedRow
 row-of-sums l w x row =
     let n = l .«in_feat» in
     let weights = weightAt (OfK (formatOf (l .format))) (rowOf l w row) in
@@ -122,7 +122,7 @@ module _ (l : Layer) (w : List ℕ) (x : List Float) where
       let in-part : c < length (part m (row * n) n) = rw (length-take, length-drop) (omega (arith, row-within l row hr)) in
       none-open (part m (row * n) n) c e in-part (part-at m (row * n) n c 0 hc ∙ z)
 
-  row-met : (s : List Float) (m : List ℕ) (row : ℕ) → row < l .«out_feat» → Held s m → openInRow l m row ≡ 0 → rowMet l s row ≡ rowDot l w x row
+  row-met : (s : List Float) (m : List ℕ) (row : ℕ) → row < l .«out_feat» → Held s m → openInRow l m row ≡ 0 → rowMet l s row ≡ inOneGo l w x row
   unfolding rowMet
   row-met s m row hr h e =
       ap tree (table-ext (λ c. getD s (place l row c) nan) (sumAt l w x row) (chunks l) (λ c hc. h .held row c (record { row-in = hr; chunk-in = hc }) (row-done m row c (h .marks-fit) hr hc e)))
@@ -136,7 +136,7 @@ module _ (l : Layer) (w : List ℕ) (x : List Float) where
   -- ---- piece
 
   good-piece : (s : State) (row c : ℕ) → Good s → Dec (pieceNo l (length w) (length x) (length (s .slots)) (s .marks) row c ≡ 0) → Good (call l w x s (piece row c))
-  unfolding call pieceCall openOf
+  unfolding call pieceSays openOf
   good-piece s row c g (yes z) =
       let p = pieceable _ _ _ _ _ _ _ z in
       let i = p .inside in
@@ -154,7 +154,7 @@ module _ (l : Layer) (w : List ℕ) (x : List Float) where
   -- ---- run
 
   good-run : (s : State) (budget : ℕ) → Good s → Dec (workNo l (length w) (length x) (length (s .slots)) (length (s .marks)) ≡ 0) → Good (call l w x s (run budget))
-  unfolding call runCall
+  unfolding call runSays
   good-run s budget g (yes z) =
       let r = run-counts l w x budget (s .marks) (s .slots) (g .holds .marks-fit) in
       rw (ran-done _ _ _ _ _ z) (record {
@@ -170,7 +170,7 @@ module _ (l : Layer) (w : List ℕ) (x : List Float) where
   -- ---- close
 
   close-rows : (s : State) (row : ℕ) → Good s → closeNo l (length (s .slots)) (s .marks) (length (s .outputs)) row ≡ 0 → (r : ℕ) → List·Memᴰ r (row ∷ s .closed) → Dec (r ≡ row)
-      → getD (set (s .outputs) row (rowMet l (s .slots) row)) r nan ≡ rowDot l w x r
+      → getD (set (s .outputs) row (rowMet l (s .slots) row)) r nan ≡ inOneGo l w x r
   close-rows s row g z r i (yes e) =
       let ok = closable _ _ _ _ _ z in
       let v = rowMet l (s .slots) row in
@@ -180,7 +180,7 @@ module _ (l : Layer) (w : List ℕ) (x : List Float) where
       getD-set-other (s .outputs) row r (rowMet l (s .slots) row) nan e ∙ ⊎-elim (λ q. absurd (e q)) (λ q. g .demand .rows r q) (List·Memᴰ·cases-cons i)
 
   good-close : (s : State) (row : ℕ) → Good s → Dec (closeNo l (length (s .slots)) (s .marks) (length (s .outputs)) row ≡ 0) → Good (call l w x s (close row))
-  unfolding call closeCall
+  unfolding call closeSays
   good-close s row g (yes z) =
       rw (carried-done _ (set (s .outputs) row (rowMet l (s .slots) row)) (s .outputs) z) (record {
         holds = g .holds;
@@ -205,7 +205,7 @@ module _ (l : Layer) (w : List ℕ) (x : List Float) where
   -- ---- after an open that was not refused
 
   good-open : (slots : List Float) (marks : List ℕ) (outputs : List Float) → openNo l (length slots) (length marks) ≡ 0 → Good (opened l slots marks outputs)
-  unfolding opened openCall openOf
+  unfolding opened openSays openOf
   good-open slots marks outputs z =
       let room = openable _ _ _ z .has-room in
       let n = pieces l in
@@ -226,6 +226,6 @@ module _ (l : Layer) (w : List ℕ) (x : List Float) where
 
 -- DEMAND 3
 pub demand3 : (l : Layer) (w : List ℕ) (x : List Float) (slots : List Float) (marks : List ℕ) (outputs : List Float)
-    → openCall l slots marks .0 ≡ done → (cs : List Call) → Demand3 l w x (calls l w x (opened l slots marks outputs) cs)
-unfolding openCall
+    → openSays l slots marks .0 ≡ done → (cs : List Call) → Demand3 l w x (calls l w x (opened l slots marks outputs) cs)
+unfolding openSays
 demand3 l w x slots marks outputs h cs = good-calls l w x (opened l slots marks outputs) cs (good-open l w x slots marks outputs (carried-none _ _ _ h)) .demand

@@ -8,7 +8,7 @@ use lib.ListN.{length, getD, take, set, length-take}
 use lib.Seq.{take-suc, take-set-lt, getD-take}
 use Rattle.memory.specs.Lists.{table}
 use Rattle.stepped.specs.Layer.{isOpen, openCount}
-use Rattle.stepped.specs.Calls.{noMark}
+use Rattle.stepped.specs.Says.{noMark}
 
 open-append : (a b : List ℕ) → openCount (a ++ b) ≡ openCount a + openCount b
 unfolding openCount

@@ -25,8 +25,8 @@ use Rattle.fused.proofs.Decoded.{dot-of-weights}
 use Rattle.stepped.specs.declared.shape.Layer.{Layer}
 use Rattle.stepped.specs.Layer.{chunks, pieces, rowBytes, rowOf}
 use Rattle.stepped.specs.Ready.{Ready}
-use Rattle.stepped.specs.Calls.{rowMet}
-use Rattle.stepped.specs.History.{decodedRow, rowDot}
+use Rattle.stepped.specs.Says.{rowMet}
+use Rattle.stepped.specs.History.{decodedRow, inOneGo}
 use Rattle.stepped.proofs.Shapes.{shaped, bytes-within, row-enough}
 
 -- ---- an in_feat of 0 has no pieces, and every row closes at +0.0
@@ -58,8 +58,8 @@ dot-answered x y n m u v = by (ℕ-discrete n 0)
     by (no z) = simp (le-ltb _ _ m, ne-eqb _ _ z, le-ltb _ _ v, le-ltb _ _ u)
 
 module _ (l : Layer) (w : List ℕ) (x : List Float) (row : ℕ) (ready : Ready l (length w) (length x)) (inside : row < l .«out_feat») where
-  pub dot-in-one-go : dotSays x (decodedRow l w row) (l .«in_feat») ≡ value (rowDot l w x row)
-  unfolding rowDot decodedRow
+  pub dot-in-one-go : dotSays x (decodedRow l w row) (l .«in_feat») ≡ value (inOneGo l w x row)
+  unfolding inOneGo decodedRow
   dot-in-one-go = dot-answered x (decodedRow l w row) (l .«in_feat») (shaped l (ready .shape) .inputs) (ready .readings-enough) (rw length-table (le-refl _))
 
   row-length : length (rowOf l w row) ≡ rowBytes l
@@ -69,7 +69,7 @@ module _ (l : Layer) (w : List ℕ) (x : List Float) (row : ℕ) (ready : Ready 
   unfolding rowBytes
   row-whole = ap (λ (n : ℕ). n % bytesK (formatOf (l .format))) row-length ∙ mul-mod-left (l .«in_feat» / 256) (bytesK (formatOf (l .format)))
 
-  pub fused-in-one-go : fusedSays (formatOf (l .format)) x (rowOf l w row) (l .«in_feat») ≡ value (rowDot l w x row)
+  pub fused-in-one-go : fusedSays (formatOf (l .format)) x (rowOf l w row) (l .«in_feat») ≡ value (inOneGo l w x row)
   unfolding decodedRow
   fused-in-one-go =
       let f = formatOf (l .format) in

@@ -7,7 +7,7 @@ use denote.Ref.{now}
 use Rattle.refusals.proofs.Once.{OneCall, same, one-filled}
 use Rattle.stepped.specs.declared.running.Progress.{Progress}
 use Rattle.stepped.specs.declared.running.Progress.the-variants.{Ran, Refused}
-use Rattle.stepped.specs.Calls.{RunSaid, progressSays}
+use Rattle.stepped.specs.Says.{RunSaid, progressSays}
 use Rattle.stepped.proofs.opening.open.Reads as opening
 use Rattle.stepped.proofs.pieces.piece.Reads as piece
 use Rattle.stepped.proofs.running.run.Reads as running

@@ -13,8 +13,8 @@ use Rattle.sums.specs.Lanes.{products}
 use Rattle.sums.specs.Rows.{rowSum}
 use Rattle.stepped.specs.declared.shape.Layer.{Layer}
 use Rattle.stepped.specs.Layer.{pieces, rowOf, openOf}
-use Rattle.stepped.specs.Calls as says
-use Rattle.stepped.specs.Calls.{RunSaid, openCall, pieceCall, runCall, closeCall}
+use Rattle.stepped.specs.Says as says
+use Rattle.stepped.specs.Says.{RunSaid, openSays, pieceSays, runSays, closeSays}
 
 -- ---- the row in one go
 
@@ -23,11 +23,12 @@ unfoldable pub decodedRow : Layer → List ℕ → ℕ → List Float
 decodedRow l w row = table (weightAt (OfK (formatOf (l .format))) (rowOf l w row)) (l .«in_feat»)
 
 -- the fixed-order dot of the readings and the row decoded
-unfoldable pub rowDot : Layer → List ℕ → List Float → ℕ → Float
-rowDot l w x row = rowSum (products x (decodedRow l w row)) (l .«in_feat»)
+unfoldable pub inOneGo : Layer → List ℕ → List Float → ℕ → Float
+inOneGo l w x row = rowSum (products x (decodedRow l w row)) (l .«in_feat»)
 
 -- ---- the calls
 
+-- a call, refused or not
 pub data Call : Type 0 where
   piece : (row c : ℕ) → Call
   run : (budget : ℕ) → Call
@@ -58,18 +59,19 @@ closedBy (value v) row rows = rows
 closedBy done row rows = row ∷ rows
 closedBy (refused num) row rows = rows
 
+-- one call
 unfoldable pub call : Layer → List ℕ → List Float → State → Call → State
 call l w x s (piece row c) =
-    let r = pieceCall l w x row c (s .slots) (s .marks) in
+    let r = pieceSays l w x row c (s .slots) (s .marks) in
     record { slots = r .1 .0; marks = r .1 .1; outputs = s .outputs; accepted = s .accepted + acceptedBy (r .0); closed = s .closed }
 call l w x s (run budget) =
-    let r = runCall l w x budget (s .slots) (s .marks) in
+    let r = runSays l w x budget (s .slots) (s .marks) in
     record { slots = r .1 .0; marks = r .1 .1; outputs = s .outputs; accepted = s .accepted + acceptedByRun (r .0); closed = s .closed }
 call l w x s (close row) =
-    let r = closeCall l row (s .slots) (s .marks) (s .outputs) in
+    let r = closeSays l row (s .slots) (s .marks) (s .outputs) in
     record { slots = s .slots; marks = s .marks; outputs = r .1; accepted = s .accepted; closed = closedBy (r .0) row (s .closed) }
 
--- one after another
+-- the calls, one after another
 unfoldable pub calls : Layer → List ℕ → List Float → State → List Call → State
 calls l w x s [] = s
 calls l w x s (c ∷ cs) = calls l w x (call l w x s c) cs
@@ -77,10 +79,10 @@ calls l w x s (c ∷ cs) = calls l w x (call l w x s c) cs
 -- after an open: no piece accepted yet, and no row closed
 unfoldable pub opened : Layer → List Float → List ℕ → List Float → State
 opened l slots marks outputs =
-    let r = openCall l slots marks in
+    let r = openSays l slots marks in
     record { slots = r .1 .0; marks = r .1 .1; outputs = outputs; accepted = 0; closed = [] }
 
 -- each closed row has the bits of decoding that row by the published layout and taking the fixed-order dot in one go, or both are NaN; pieces accepted plus pieces open is the layer's piece count
 pub record Demand3 (l : Layer) (w : List ℕ) (x : List Float) (s : State) : Type 0 where
-  pub rows : (row : ℕ) → List·Memᴰ row (s .closed) → getD (s .outputs) row nan ≡ rowDot l w x row
+  pub rows : (row : ℕ) → List·Memᴰ row (s .closed) → getD (s .outputs) row nan ≡ inOneGo l w x row
   pub counted : s .accepted + openOf l (s .marks) ≡ pieces l

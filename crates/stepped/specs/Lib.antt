@@ -2,5 +2,5 @@
 pub mod Layer
 pub mod Refusals
 pub mod Ready
-pub mod Calls
+pub mod Says
 pub mod History

@@ -7,7 +7,7 @@ ghost use mathlib.Core.Path.{_≡_};
 ghost use lib.ListN.{length};
 ghost use Rattle.refusals.specs.Said.{outcomeSays};
 ghost use Rattle.memory.specs.Lists.{table};
-ghost use Rattle.stepped.specs.Calls.{noSum, noMark, openCall};
+ghost use Rattle.stepped.specs.Says.{noSum, noMark, openSays};
 
 // Slots become +0.0.
 fn clear_slots(slots: &mut [f32])
@@ -33,7 +33,7 @@ fn clear_marks(marks: &mut [u8])
 
 // Clears the marks and the slots of every piece. Refuses 12, 6, 2 and 5, in this order.
 pub fn open(l: Layer, slots: &mut [f32], marks: &mut [u8]) -> Outcome
-    ensures { λ r. ⌜ (outcomeSays r, (now (slots .exit), now (marks .exit))) ≡ openCall l (now (slots .entry)) (now (marks .entry)) ⌝ }
+    ensures { λ r. ⌜ (outcomeSays r, (now (slots .exit), now (marks .exit))) ≡ openSays l (now (slots .entry)) (now (marks .entry)) ⌝ }
 {
     let no = open_no(l, slots.len(), marks.len());
     if no != 0 {

@@ -8,7 +8,7 @@ ghost use mathlib.Core.Path.{_≡_};
 ghost use lib.ListN.{length};
 ghost use Rattle.refusals.specs.Said.{outcomeSays};
 ghost use Rattle.stepped.specs.Ready.{Ready, Room, InLayer};
-ghost use Rattle.stepped.specs.Calls.{sumAt, worked, marked, pieceCall};
+ghost use Rattle.stepped.specs.Says.{sumAt, worked, marked, pieceSays};
 
 // The sum of one chunk of one row.
 fn chunk_sum(l: Layer, w: &[u8], x: &[f32], row: usize, chunk: usize) -> f32
@@ -56,7 +56,7 @@ pub fn piece(
     slots: &mut [f32],
     marks: &mut [u8],
 ) -> Outcome
-    ensures { λ r. ⌜ (outcomeSays r, (now (slots .exit), now (marks .exit))) ≡ pieceCall l (now (w .entry)) (now (x .entry)) row chunk (now (slots .entry)) (now (marks .entry)) ⌝ }
+    ensures { λ r. ⌜ (outcomeSays r, (now (slots .exit), now (marks .exit))) ≡ pieceSays l (now (w .entry)) (now (x .entry)) row chunk (now (slots .entry)) (now (marks .entry)) ⌝ }
 {
     let no = piece_no(l, w.len(), x.len(), slots.len(), marks, row, chunk);
     if no != 0 {

@@ -9,7 +9,7 @@ use crate::shape::place_of;
 ghost use mathlib.Core.Path.{_≡_};
 ghost use lib.ListN.{length};
 ghost use Rattle.stepped.specs.Ready.{Ready, Room};
-ghost use Rattle.stepped.specs.Calls.{work, runWork, progressSays, runCall};
+ghost use Rattle.stepped.specs.Says.{work, runWork, progressSays, runSays};
 
 // What run answers: how many pieces it did and how many stay open, or a number that says no.
 pub enum Progress {
@@ -56,7 +56,7 @@ pub fn run(
     slots: &mut [f32],
     marks: &mut [u8],
 ) -> Progress
-    ensures { λ r. ⌜ (progressSays r, (now (slots .exit), now (marks .exit))) ≡ runCall l (now (w .entry)) (now (x .entry)) budget (now (slots .entry)) (now (marks .entry)) ⌝ }
+    ensures { λ r. ⌜ (progressSays r, (now (slots .exit), now (marks .exit))) ≡ runSays l (now (w .entry)) (now (x .entry)) budget (now (slots .entry)) (now (marks .entry)) ⌝ }
 {
     let no = work_no(l, w.len(), x.len(), slots.len(), marks.len());
     if no != 0 {

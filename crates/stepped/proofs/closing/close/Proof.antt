@@ -6,7 +6,7 @@ use lib.ListN.{length, set}
 use lib.Ieee.{Float}
 use denote.Ref.{now}
 use Rattle.stepped.specs.Refusals.{closeNo}
-use Rattle.stepped.specs.Calls.{closeCall}
+use Rattle.stepped.specs.Says.{closeSays}
 use Rattle.stepped.proofs.Shapes.{closable}
 use Rattle.stepped.proofs.Answers.{says-refused, says-done}
 use Rattle.stepped.proofs.closing.close.Statement.{statement}
@@ -16,14 +16,14 @@ close-no-requires : tie.Need-close-no-requires
 close-no-requires c κs = search needs
 
 returns : tie.Need-returns
-unfolding closeCall
+unfolding closeSays
 returns c = says-refused _ _ _ _ (c .before .close-no .ensures) (c .if1 .taken)
 
 able : (c : tie.Else1) → let a = c .before .before .before .before .before .args in closeNo (a .l) (length (now (a .slots))) (now (a .marks)) (length (now (a .y))) (a .row) ≡ 0
 able c = sym (c .before .close-no .ensures) ∙ c .if1 .left
 
 meet-requires : tie.Need-meet-requires
-meet-requires c κs = let r = closable _ _ _ _ _ (able c) in (r .able .shape, r .row-in, r .able .has-room .slots-enough)
+meet-requires c κs = let r = closable _ _ _ _ _ (able c) in (r .able .shape, omega (arith, r .row-in), r .able .has-room .slots-enough)
 
 mul-y : tie.Need-mul-y
 mul-y c = let r = closable _ _ _ _ _ (able (c .before)) in omega (arith, r .row-in, r .outputs-enough)
@@ -35,7 +35,7 @@ same-length : tie.Need-same-length
 same-length c = search needs
 
 returns-2 : tie.Need-returns-2
-unfolding closeCall
+unfolding closeSays
 returns-2 c =
     let e = c .before in
     let a = e .before .before .before .before .before .args in

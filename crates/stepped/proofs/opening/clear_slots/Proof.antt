@@ -4,7 +4,7 @@ use mathlib.Core.Path.{refl}
 use Prim.Native.Nat.{_-_}
 use lib.ListN.{length}
 use Rattle.memory.proofs.Filled.{Filling, filling-start, filling-more, filling-done}
-use Rattle.stepped.specs.Calls.{noSum}
+use Rattle.stepped.specs.Says.{noSum}
 use Rattle.stepped.proofs.opening.clear_slots.Statement.{statement}
 use Rattle.stepped.proofs.opening.clear_slots.Tie as tie
 

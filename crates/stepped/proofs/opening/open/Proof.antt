@@ -7,7 +7,7 @@ use lib.Seq.{length-take-le}
 use denote.Ref.{now}
 use Rattle.stepped.specs.Layer.{pieces}
 use Rattle.stepped.specs.Refusals.{openNo}
-use Rattle.stepped.specs.Calls.{noSum, noMark, openCall}
+use Rattle.stepped.specs.Says.{noSum, noMark, openSays}
 use Rattle.stepped.proofs.Lists.{front-filled}
 use Rattle.stepped.proofs.Shapes.{openable}
 use Rattle.stepped.proofs.Answers.{says-refused, says-done}
@@ -18,7 +18,7 @@ open-no-requires : tie.Need-open-no-requires
 open-no-requires c κs = search needs
 
 returns : tie.Need-returns
-unfolding openCall
+unfolding openSays
 returns c = says-refused _ _ _ _ (c .before .open-no .ensures) (c .if1 .taken)
 
 able : (c : tie.Else1) → let a = c .before .before .before .before .args in openNo (a .l) (length (now (a .slots))) (length (now (a .marks))) ≡ 0
@@ -54,7 +54,7 @@ same-length-2 : tie.Need-same-length-2
 same-length-2 c = search needs
 
 returns-2 : tie.Need-returns-2
-unfolding openCall
+unfolding openSays
 returns-2 c =
     let m = c .before .before in
     let s = m .before .before .before .before in

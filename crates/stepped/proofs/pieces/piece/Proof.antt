@@ -4,7 +4,7 @@ use mathlib.Core.Path.{_≡_, sym, _∙_}
 use lib.ListN.{length}
 use denote.Ref.{now}
 use Rattle.stepped.specs.Refusals.{pieceNo}
-use Rattle.stepped.specs.Calls.{pieceCall}
+use Rattle.stepped.specs.Says.{pieceSays}
 use Rattle.stepped.proofs.Shapes.{pieceable}
 use Rattle.stepped.proofs.Answers.{says-refused, says-done}
 use Rattle.stepped.proofs.pieces.piece.Statement.{statement}
@@ -17,7 +17,7 @@ same-length : tie.Need-same-length
 same-length c = search needs
 
 returns : tie.Need-returns
-unfolding pieceCall
+unfolding pieceSays
 returns c = says-refused _ _ _ _ (c .before .piece-no .ensures) (c .if1 .taken)
 
 able : (c : tie.Else1) → let a = c .before .before .before .before .before .before .before .args in
@@ -36,7 +36,7 @@ same-length-3 : tie.Need-same-length-3
 same-length-3 c = search needs
 
 returns-2 : tie.Need-returns-2
-unfolding pieceCall
+unfolding pieceSays
 returns-2 c =
     let k = c .before .before .before .before in
     let e = k .before .before .before in

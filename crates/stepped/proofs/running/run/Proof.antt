@@ -8,7 +8,7 @@ use lib.Seq.{length-take-le}
 use denote.Ref.{now}
 use Rattle.stepped.specs.Layer.{openCount, openOf}
 use Rattle.stepped.specs.Refusals.{workNo}
-use Rattle.stepped.specs.Calls.{runCall}
+use Rattle.stepped.specs.Says.{runSays}
 use Rattle.stepped.proofs.Shapes.{workable}
 use Rattle.stepped.proofs.Answers.{ran-refused}
 use Rattle.stepped.proofs.Counts.{run-done}
@@ -19,7 +19,7 @@ work-no-requires : tie.Need-work-no-requires
 work-no-requires c κs = search needs
 
 returns : tie.Need-returns
-unfolding runCall
+unfolding runSays
 returns c = let e = c .before .work-no .ensures in rw e (sym (ran-refused _ _ _ _ _ (λ z. c .if1 .taken (e ∙ z))))
 
 able : (c : tie.Else1) → let a = c .before .before .before .before .before .before .args in

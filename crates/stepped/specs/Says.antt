@@ -21,15 +21,17 @@ use Rattle.stepped.specs.Refusals.{openNo, workNo, pieceNo, closeNo}
 
 -- ---- open clears marks to 0 and slots to +0.0
 
+-- what a cleared slot holds
 abbrev pub noSum : ℕ → Float
 noSum i = nought
 
+-- what a cleared mark is
 abbrev pub noMark : ℕ → ℕ
 noMark i = 0
 
--- surplus slots and marks are kept
-unfoldable pub openCall : Layer → List Float → List ℕ → Said × (List Float × List ℕ)
-openCall l slots marks =
+-- `open`: the slots and the marks of every piece are cleared; surplus ones are kept
+unfoldable pub openSays : Layer → List Float → List ℕ → Said × (List Float × List ℕ)
+openSays l slots marks =
     carriedOut (openNo l (length slots) (length marks)) (filled noSum slots (pieces l), filled noMark marks (pieces l)) (slots, marks)
 
 -- ---- a piece writes its own slot and sets its mark to 1, nothing else
@@ -46,8 +48,9 @@ worked l w x row c slots = set slots (place l row c) (sumAt l w x row c)
 abbrev pub marked : Layer → (row c : ℕ) → List ℕ → List ℕ
 marked l row c marks = set marks (place l row c) 1
 
-unfoldable pub pieceCall : Layer → List ℕ → List Float → (row c : ℕ) → List Float → List ℕ → Said × (List Float × List ℕ)
-pieceCall l w x row c slots marks =
+-- `piece`
+unfoldable pub pieceSays : Layer → List ℕ → List Float → (row c : ℕ) → List Float → List ℕ → Said × (List Float × List ℕ)
+pieceSays l w x row c slots marks =
     carriedOut (pieceNo l (length w) (length x) (length slots) marks row c) (worked l w x row c slots, marked l row c marks) (slots, marks)
 
 -- ---- run does the next open pieces in row order, chunks rising, at most as many as its budget
@@ -56,9 +59,11 @@ pieceCall l w x row c slots marks =
 pub data Work : Type 0 where
   work : (slots : List Float) (marks : List ℕ) (done : ℕ) → Work
 
+-- the slots then
 abbrev pub slotsOf : Work → List Float
 slotsOf (work slots marks done) = slots
 
+-- the marks then
 abbrev pub marksOf : Work → List ℕ
 marksOf (work slots marks done) = marks
 
@@ -79,6 +84,7 @@ unfoldable pub visitRows : Layer → List ℕ → List Float → (budget n : ℕ
 visitRows l w x budget zero k = k
 visitRows l w x budget (suc n) k = visitRow l w x budget n (chunks l) (visitRows l w x budget n k)
 
+-- all rows, with no piece done before
 unfoldable pub runWork : Layer → List ℕ → List Float → ℕ → List Float → List ℕ → Work
 runWork l w x budget slots marks = visitRows l w x budget (l .«out_feat») (work slots marks 0)
 
@@ -92,20 +98,23 @@ abbrev pub progressSays : Progress → RunSaid
 progressSays (progress.Ran done left) = ran done left
 progressSays (progress.Refused num) = refused num
 
--- done is the smaller of budget and pieces open before; left is counted from the marks after
+-- A refusal returns its number and leaves all lent memory as it found it: the two counts and `new` where run did its work, and `old` where it refused.
 unfoldable pub ranOut : ℕ → (done left : ℕ) → {A : Type 0} → A → A → RunSaid × A
 ranOut zero done left new old = (ran done left, new)
 ranOut (suc num) done left new old = (refused (suc num), old)
 
-unfoldable pub runCall : Layer → List ℕ → List Float → ℕ → List Float → List ℕ → RunSaid × (List Float × List ℕ)
-runCall l w x budget slots marks =
+-- `run`: done is the smaller of budget and pieces open before, and left is how many pieces are open after
+unfoldable pub runSays : Layer → List ℕ → List Float → ℕ → List Float → List ℕ → RunSaid × (List Float × List ℕ)
+runSays l w x budget slots marks =
     let after = runWork l w x budget slots marks in
     ranOut (workNo l (length w) (length x) (length slots) (length marks)) (min budget (openOf l marks)) (openOf l (marksOf after)) (slotsOf after, marksOf after) (slots, marks)
 
 -- ---- close writes that row's output, its slots met in the tree; the slots stay as they are, and closing again is allowed
 
+-- the row's slots met in the tree; an empty tree, of an in_feat of 0, is +0.0
 unfoldable pub rowMet : Layer → List Float → ℕ → Float
 rowMet l slots row = tree (table (λ c. getD slots (place l row c) nan) (chunks l))
 
-unfoldable pub closeCall : Layer → ℕ → List Float → List ℕ → List Float → Said × List Float
-closeCall l row slots marks y = carriedOut (closeNo l (length slots) marks (length y) row) (set y row (rowMet l slots row)) y
+-- `close`: the row's output; the other outputs are kept
+unfoldable pub closeSays : Layer → ℕ → List Float → List ℕ → List Float → Said × List Float
+closeSays l row slots marks y = carriedOut (closeNo l (length slots) marks (length y) row) (set y row (rowMet l slots row)) y
