@@ -1,0 +1,2 @@
+-- What is known of a layer that does not refuse.
+pub mod Fits

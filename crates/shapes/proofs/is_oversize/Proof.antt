@@ -1,17 +1,20 @@
-use native.Mathlib.Omega.{arith}
+-- `is_oversize` meets its contract: the sizes one by one. Assumes nothing.
+use borrow.Author.Tests.{lt-ltb, le-ltb}
+use Rattle.shapes.specs.Shapes.{oversize}
 use Rattle.shapes.proofs.is_oversize.Statement.{statement}
 use Rattle.shapes.proofs.is_oversize.Tie as tie
-use Rattle.shapes.proofs.is_oversize.Reads as reads
-use Rattle.shapes.proofs.is_oversize.Lts as lts
 
 returns : tie.Need-returns
-returns c = omega arith
+unfolding oversize
+returns c = simp (lt-ltb _ _ (c .if1 .taken))
 
 returns-2 : tie.Need-returns-2
-returns-2 c = omega arith
+unfolding oversize
+returns-2 c = simp (le-ltb _ _ (c .before .before .if1 .left), lt-ltb _ _ (c .if2 .taken))
 
 returns-3 : tie.Need-returns-3
-returns-3 c = omega arith
+unfolding oversize
+returns-3 c = simp (le-ltb _ _ (c .before .before .before .if1 .left), le-ltb _ _ (c .before .if2 .left))
 
 pub is-oversize-spec : {M : Type 1} → statement M
 is-oversize-spec = tie.close (tie.spec returns returns-2 returns-3)
