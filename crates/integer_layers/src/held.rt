@@ -12,20 +12,22 @@ ghost use Rattle.activations.specs.Dots.{blockDot};
 ghost use Rattle.integer_layers.specs.Meets.{meets};
 ghost use Rattle.integer_layers.specs.Held.{blockHeld, heldDot, Room, Held, Holds};
 
-fn lay_quants(quants: &[i8; 256], out: &mut [i8])
-    requires { ⌜ length (now out) ≡ 256 ⌝ }
+// Lays a block's quants in their places.
+fn lay_quants(quants: &[i8], out: &mut [i8])
+    requires { ⌜ length (now quants) ≡ length (now out) ⌝ }
     ensures { λ _. ⌜ now (out .exit) ≡ now (quants .entry) ⌝ }
 {
-    for i in 0..256usize {
+    for i in 0..out.len() {
         out[i] = quants[i];
     }
 }
 
-fn lay_sums(eight: &[i32; 8], out: &mut [i32])
-    requires { ⌜ length (now out) ≡ 8 ⌝ }
+// The same of its sums.
+fn lay_sums(eight: &[i32], out: &mut [i32])
+    requires { ⌜ length (now eight) ≡ length (now out) ⌝ }
     ensures { λ _. ⌜ now (out .exit) ≡ now (eight .entry) ⌝ }
 {
-    for j in 0..8usize {
+    for j in 0..out.len() {
         out[j] = eight[j];
     }
 }

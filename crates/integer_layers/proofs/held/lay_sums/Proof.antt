@@ -1,23 +1,29 @@
+-- `held::lay_sums` meets its contract. Assumes nothing.
+use mathlib.Core.Path.{refl, _∙_}
+use Prim.Native.Nat.{ℕ, _-_}
+use lib.IntN.{pos}
+use lib.ListN.{length, getD}
+use mir.Syntax.{w32}
+use Rattle.numbers.proofs.Signed.{read-is}
+use Rattle.memory.proofs.Filled.{Filling, filling-start, filling-more, filling-done, table-of}
 use native.Mathlib.Omega.{arith}
 use Rattle.integer_layers.proofs.held.lay_sums.Statement.{statement}
 use Rattle.integer_layers.proofs.held.lay_sums.Tie as tie
-use Rattle.integer_layers.proofs.held.lay_sums.Reads as reads
-use Rattle.integer_layers.proofs.held.lay_sums.Lts as lts
 
 abbrev Inv-loop : tie.InvT-loop
-Inv-loop eight out₀ j₀ out j = ?
+Inv-loop eight out₀ j₀ j-end out j = Filling (λ (k : ℕ). getD eight k (pos 0)) out₀ (length out₀) out j
 
 abbrev μ-loop : tie.MeasureT-loop
-μ-loop eight out₀ j₀ out j = ?
+μ-loop eight out₀ j₀ j-end out j = length out₀ - j
 
 loop-holds : tie.Need-loop-holds Inv-loop μ-loop
-loop-holds c = omega arith
+loop-holds c = filling-start _ _ _ refl
 
 mul-out : tie.Need-mul-out Inv-loop μ-loop
 mul-out c = omega arith
 
-element-copy-out-out : tie.Need-element-copy-out-out Inv-loop μ-loop
-element-copy-out-out c = omega arith
+shared-slice-copy-out-out : tie.Need-shared-slice-copy-out-out Inv-loop μ-loop
+shared-slice-copy-out-out c = omega arith
 
 mul-t9 : tie.Need-mul-t9 Inv-loop μ-loop
 mul-t9 c = omega arith
@@ -32,13 +38,19 @@ loop-less : tie.Need-loop-less Inv-loop μ-loop
 loop-less c = omega arith
 
 loop-again : tie.Need-loop-again Inv-loop μ-loop
-loop-again c = omega arith
+loop-again c =
+    let l = c .before .before .loop in
+    let t = c .before .before .before in
+    filling-more (λ (k : ℕ). getD (t .args .eight .now) k (pos 0)) (t .args .out .now) (length (t .args .out .now)) (l .out) (l .j) _ refl (l .inv) (omega arith) (read-is w32 _ (c .out .given))
 
 same-length : tie.Need-same-length Inv-loop μ-loop
-same-length c = omega arith
+same-length c = c .before .loop .inv .2
 
 returns : tie.Need-returns Inv-loop μ-loop
-returns c = omega arith
+returns c =
+    let l = c .before .loop in
+    let t = c .before .before in
+    filling-done (λ (k : ℕ). getD (t .args .eight .now) k (pos 0)) (t .args .out .now) (length (t .args .out .now)) (l .out) (l .j) refl (l .inv) (omega arith) ∙ table-of (t .args .eight .now) (length (t .args .out .now)) (pos 0) (t .pre)
 
 pub lay-sums-spec : {M : Type 1} → statement M
 lay-sums-spec =
@@ -48,7 +60,7 @@ lay-sums-spec =
     μ-loop
     loop-holds
     mul-out
-    element-copy-out-out
+    shared-slice-copy-out-out
     mul-t9
     slice-set-from-out
     add-j

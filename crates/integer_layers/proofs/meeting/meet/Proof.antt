@@ -1,11 +1,15 @@
-use native.Mathlib.Omega.{arith}
+-- `meeting::meet` meets its contract: each meeting its own. Assumes nothing.
+use mathlib.Core.Path.{sym, ap, _∙_}
+use mathlib.Core.List.{List}
+use lib.ListN.{length}
+use lib.Ieee.{Float}
+use Rattle.sums.specs.Lanes.{values}
+use Rattle.integer_layers.specs.declared.meeting.Meeting.{Meeting}
+use Rattle.integer_layers.specs.Meets.{meets}
+use Rattle.integer_layers.proofs.Meets.{tree-meets, running-meets}
 use borrow.Author.Needs.{needs}
 use Rattle.integer_layers.proofs.meeting.meet.Statement.{statement}
 use Rattle.integer_layers.proofs.meeting.meet.Tie as tie
-use Rattle.integer_layers.proofs.meeting.meet.Reads as reads
-use Rattle.integer_layers.proofs.meeting.meet.Lts as lts
-use Rattle.integer_layers.proofs.meeting.running_sum.Reads as running-sum-reads
-use Rattle.sums.proofs.canonical_combine.Reads as canonical-combine-reads
 
 enum-told : tie.Need-enum-told
 enum-told c = search needs
@@ -23,13 +27,20 @@ same-length : tie.Need-same-length
 same-length c = search needs
 
 returns : tie.Need-returns
-returns c = omega arith
+returns c =
+    let k = c .before .before in
+    let e = k .before .before in
+    let l = e .before .before .before .args .parts .now in
+    ap (λ (q : Float × List Float). q .0) (k .canonical-combine .ensures) ∙ tree-meets l ∙ ap (λ (m : Meeting). meets m (values l) (length l)) (sym (e .enum-told .given .1))
 
 same-length-2 : tie.Need-same-length-2
 same-length-2 c = search needs
 
 returns-2 : tie.Need-returns-2
-returns-2 c = omega arith
+returns-2 c =
+    let e = c .before .before in
+    let l = e .before .before .before .args .parts .now in
+    c .running-sum .ensures ∙ running-meets l ∙ ap (λ (m : Meeting). meets m (values l) (length l)) (sym (e .enum-told2 .given .1))
 
 pub meet-spec : {M : Type 1} → statement M
 meet-spec =
