@@ -23,6 +23,7 @@ use Rattle.stepped.specs.Ready.{Ready, Room, InLayer}
 
 -- ---- the shape
 
+-- what a shape that is not refused is
 pub record Shaped (l : Layer) : Type 0 where
   pub known : knownFormat (l .format) ≡ true
   pub inputs : l .«in_feat» ≤ mostIn
@@ -44,6 +45,7 @@ module _ (l : Layer) (ok : shapeNo l ≡ 0) where
   unfolding chunks
   few-chunks = omega (arith, shaped l ok .inputs)
 
+  -- a layer's pieces, a row's bytes and a layer's bytes at most: no count of them wraps
   pub few-pieces : pieces l ≤ 1048576
   unfolding pieces
   few-pieces = mul-le-mul (shaped l ok .outputs) few-chunks
