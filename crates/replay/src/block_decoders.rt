@@ -2,6 +2,7 @@
 // there is none, and what then stands in the output.
 use crate::findings::Finding;
 use crate::findings::says;
+use crate::payload::STOOD;
 use crate::payload::same_floats;
 use crate::payload::u32_at;
 use layouts::Format;
@@ -11,8 +12,6 @@ use refusals::Outcome;
 
 // The places of an output at most: two blocks of a K format, and one place more.
 const ROOM: usize = 513;
-// What stands in each of them before the call.
-const STOOD: f32 = -1.5;
 
 fn dequantize_32(format: Format32, bytes: &[u8], out: &mut [f32]) -> Outcome {
     match format {

@@ -15,10 +15,12 @@ mod blocks;
 mod calls;
 mod findings;
 mod fixed_order_sums;
+mod linear_layers;
 mod payload;
 mod records;
 mod report;
 mod row_dots;
+mod stepped_layer;
 
 use findings::Finding;
 
@@ -93,7 +95,7 @@ fn replay_all(buf: &mut [u8]) {
 }
 
 fn main() {
-    // Room for the payload of a dot that is longer than a chunk: 8,193 floats, twice.
+    // Room for the payload of a dot or a layer that is longer than a chunk: 8,193 floats, twice.
     let mut buf = [0u8; 131072];
     replay_all(&mut buf);
 }

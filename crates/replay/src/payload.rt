@@ -1,6 +1,9 @@
 // What stands in a payload: little-endian u32s, and floats as their bits.
 use crate::findings::same_bits;
 
+// What stands in each float of lent memory before a call.
+pub const STOOD: f32 = -1.5;
+
 // The u32 at a place; 0 where the payload ends before it does.
 pub fn u32_at(payload: &[u8], at: usize) -> u32 {
     let len = payload.len();
