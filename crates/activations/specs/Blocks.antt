@@ -33,9 +33,13 @@ sumOf32 qs j = sumℤ (λ (l : ℕ). elem qs (32 * j + l)) 32
 abbrev pub sumsOf : List ℤ → List ℤ
 sumsOf qs = table (sumOf32 qs) 8
 
+-- a block that is held as its parts: its scale, its quants and its sums
+abbrev pub heldBlock : Float → List ℤ → List ℤ → Q8Block
+heldBlock d qs sums = record { d = d; qs = qs; bsums = sums }
+
 -- An activation block has one float scale, 256 signed quants and eight sums of 32: the block of a scale and its quants ..
 abbrev pub blockWith : Float → List ℤ → Q8Block
-blockWith d qs = record { d = d; qs = qs; bsums = sumsOf qs }
+blockWith d qs = heldBlock d qs (sumsOf qs)
 
 -- .. and of at most 256 readings.
 unfoldable pub blockOf : List Float → Q8Block

@@ -12,6 +12,7 @@ use Rattle.numbers.specs.Steps.{nought}
 use Rattle.layouts.specs.Formats.{bytesK}
 use Rattle.layouts.specs.Weights.{block}
 use Rattle.layouts.specs.declared.format.Format.the-variants.{OfK}
+use Rattle.layouts.specs.declared.format.FormatK.{FormatK}
 use Rattle.layouts.specs.declared.format.FormatK.the-variants.{Q4K}
 use Rattle.sums.specs.Tree.{tree}
 use Rattle.activations.specs.Blocks.{blockOf}
@@ -26,12 +27,12 @@ abbrev pub blockLength : ℕ → ℕ → ℕ
 blockLength n b = min 256 (n - 256 * b)
 
 -- the dot of block b: its readings quantised, over as many places as there are readings
-abbrev pub blockAt : List Float → List ℕ → ℕ → ℕ → Float
-blockAt x w n b = blockDot Q4K (block (OfK Q4K) w b) (blockOf (part x (256 * b) (blockLength n b))) (blockLength n b)
+abbrev pub blockAt : FormatK → List Float → List ℕ → ℕ → ℕ → Float
+blockAt f x w n b = blockDot f (block (OfK f) w b) (blockOf (part x (256 * b) (blockLength n b))) (blockLength n b)
 
 -- row results meet in the tree
-unfoldable pub rowDot : List Float → List ℕ → ℕ → Float
-rowDot x w n = tree (table (blockAt x w n) (blocksIn n))
+unfoldable pub rowDot : FormatK → List Float → List ℕ → ℕ → Float
+rowDot f x w n = tree (table (blockAt f x w n) (blocksIn n))
 
 -- `integer_dot_q4k`: over a size; packed bytes that are not whole blocks; n = 0 answers +0.0; fewer weights than needed; fewer readings; and otherwise the row's dot
 unfoldable pub integerSays : List Float → List ℕ → ℕ → Said
@@ -41,4 +42,4 @@ integerSays x w n =
     (cond (eqb n 0) (value nought)
     (cond (ltb (length w) (blocksIn n * bytesK Q4K)) (refused 3)
     (cond (ltb (length x) n) (refused 4)
-    (value (rowDot x w n))))))
+    (value (rowDot Q4K x w n))))))

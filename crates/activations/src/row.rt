@@ -2,6 +2,7 @@
 use crate::block::quantized_block;
 use crate::dot::Q4K_BYTES;
 use crate::dot::block_dot_q4k;
+use layouts::FormatK;
 use refusals::Answer;
 ghost use mathlib.Core.Path.{_≡_};
 ghost use Prim.Native.Nat.{_+_, _*_, _≤_, _<_};
@@ -33,7 +34,7 @@ fn block_end(n: usize, b: usize) -> usize
 // The dot of the first n places: the dots of the blocks meet in the tree.
 fn row_dot(x: &[f32], w: &[u8], n: usize) -> f32
     requires { ⌜ (n ≤ mostIn) × (n ≤ length (now x)) × (blocksIn n * 144 ≤ length (now w)) ⌝ }
-    ensures { λ r. ⌜ r ≡ rowDot (now (x .entry)) (now (w .entry)) n ⌝ }
+    ensures { λ r. ⌜ r ≡ rowDot FormatK.Q4K (now (x .entry)) (now (w .entry)) n ⌝ }
 {
     let blocks = blocks_in(n);
     let mut parts = [0.0f32; MOST_BLOCKS];

@@ -35,8 +35,8 @@ fn weighed(a: i8, s: i32) -> i32
 }
 
 // The products of run j of 32, those of its two halves side by side: one reduction serves both.
-fn run_of_32(q: &[u8; 256], x: &[i8; 256], j: usize) -> i32
-    requires { ⌜ j < 8 ⌝ }
+fn run_of_32(q: &[u8; 256], x: &[i8], j: usize) -> i32
+    requires { ⌜ (length (now x) ≡ 256) × (j < 8) ⌝ }
     ensures { λ r. ⌜ (r ≡ sumℤ (λ l. pos (getD (now (q .entry)) (32 * j + l) 0) *ℤ elem (now (x .entry)) (32 * j + l)) 32) × Within 1044480 r ⌝ }
 {
     let low = 32 * j;
@@ -49,8 +49,8 @@ fn run_of_32(q: &[u8; 256], x: &[i8; 256], j: usize) -> i32
 }
 
 // The products of run e of 16.
-fn run_of_16(q: &[i8; 256], x: &[i8; 256], e: usize) -> i32
-    requires { ⌜ e < 16 ⌝ }
+fn run_of_16(q: &[i8; 256], x: &[i8], e: usize) -> i32
+    requires { ⌜ (length (now x) ≡ 256) × (e < 16) ⌝ }
     ensures { λ r. ⌜ (r ≡ sumℤ (λ l. elem (now (q .entry)) (16 * e + l) *ℤ elem (now (x .entry)) (16 * e + l)) 16) × Within 1044480 r ⌝ }
 {
     let from = 16 * e;
@@ -62,8 +62,8 @@ fn run_of_16(q: &[i8; 256], x: &[i8; 256], e: usize) -> i32
 }
 
 // Q4_K's whole-number sum over all places: a scale for each run of 32.
-fn whole_q4k(w: &[u8], x: &[i8; 256]) -> i32
-    requires { ⌜ length (now w) ≡ 144 ⌝ }
+pub(crate) fn whole_q4k(w: &[u8], x: &[i8]) -> i32
+    requires { ⌜ (length (now w) ≡ 144) × (length (now x) ≡ 256) ⌝ }
     ensures { λ r. ⌜ r ≡ wholeSum FormatK.Q4K (now (w .entry)) (now (x .entry)) 256 ⌝ }
 {
     let q = layouts::quants_q4k(w);
@@ -75,8 +75,8 @@ fn whole_q4k(w: &[u8], x: &[i8; 256]) -> i32
 }
 
 // Q6_K's: a scale for each run of 16.
-fn whole_q6k(w: &[u8], x: &[i8; 256]) -> i32
-    requires { ⌜ length (now w) ≡ 210 ⌝ }
+pub(crate) fn whole_q6k(w: &[u8], x: &[i8]) -> i32
+    requires { ⌜ (length (now w) ≡ 210) × (length (now x) ≡ 256) ⌝ }
     ensures { λ r. ⌜ r ≡ wholeSum FormatK.Q6K (now (w .entry)) (now (x .entry)) 256 ⌝ }
 {
     let q = layouts::quants_q6k(w);
@@ -88,7 +88,7 @@ fn whole_q6k(w: &[u8], x: &[i8; 256]) -> i32
 }
 
 // The quants below n, and 0 from there on.
-fn cut(x: [i8; 256], n: usize) -> [i8; 256]
+pub(crate) fn cut(x: [i8; 256], n: usize) -> [i8; 256]
     requires { ⌜ n ≤ 256 ⌝ }
     ensures { λ r. ⌜ r ≡ table (λ i. cond (ltb i n) (elem x i) (pos 0)) 256 ⌝ }
 {
@@ -99,27 +99,9 @@ fn cut(x: [i8; 256], n: usize) -> [i8; 256]
     r
 }
 
-// Q4_K's whole-number sum over the places below n. A function for each format, so that each is inlined where it is called.
-pub(crate) fn sum_q4k(w: &[u8], x: [i8; 256], n: usize) -> i32
-    requires { ⌜ (length (now w) ≡ 144) × (n ≤ 256) ⌝ }
-    ensures { λ r. ⌜ r ≡ wholeSum FormatK.Q4K (now (w .entry)) x n ⌝ }
-{
-    let below = cut(x, n);
-    whole_q4k(w, &below)
-}
-
-// Q6_K's.
-pub(crate) fn sum_q6k(w: &[u8], x: [i8; 256], n: usize) -> i32
-    requires { ⌜ (length (now w) ≡ 210) × (n ≤ 256) ⌝ }
-    ensures { λ r. ⌜ r ≡ wholeSum FormatK.Q6K (now (w .entry)) x n ⌝ }
-{
-    let below = cut(x, n);
-    whole_q6k(w, &below)
-}
-
 // Q4_K's minimums times the block's sums, all eight.
-pub(crate) fn minimum_sum(w: &[u8], sums: &[i32; 8]) -> i32
-    requires { ⌜ (length (now w) ≡ 144) × ((j : ℕ) → j < 8 → Within 4096 (elem (now sums) j)) ⌝ }
+pub(crate) fn minimum_sum(w: &[u8], sums: &[i32]) -> i32
+    requires { ⌜ (length (now w) ≡ 144) × (length (now sums) ≡ 8) × ((j : ℕ) → j < 8 → Within 4096 (elem (now sums) j)) ⌝ }
     ensures { λ r. ⌜ r ≡ minimumSum (now (w .entry)) (now (sums .entry)) ⌝ }
 {
     let mut m: i32 = 0;

@@ -1,5 +1,7 @@
--- The formats' block sizes. Definitions only.
+-- The formats' block sizes, and the bytes that name a layer's format. Definitions only.
 use Prim.Native.Nat.{ℕ}
+use mathlib.Core.Bool.{Bool, _||_, cond}
+use lib.Dec.{eqb}
 use Rattle.layouts.specs.declared.format.Format32.{Format32}
 use Rattle.layouts.specs.declared.format.Format32.the-variants.{Q40, Q50, Q80}
 use Rattle.layouts.specs.declared.format.FormatK.{FormatK}
@@ -27,3 +29,11 @@ blockBytes (OfK f) = bytesK f
 abbrev pub blockValues : Format → ℕ
 blockValues (Of32 f) = 32
 blockValues (OfK f) = 256
+
+-- a layer's format byte: 4 is Q4_K, 6 is Q6_K, and any other is unknown
+abbrev pub knownFormat : ℕ → Bool
+knownFormat byte = eqb byte 4 || eqb byte 6
+
+-- the format that a known byte names
+unfoldable pub formatOf : ℕ → FormatK
+formatOf byte = cond (eqb byte 4) Q4K Q6K

@@ -1,6 +1,7 @@
 // The formats, by the values that a block has. A format's name is written without its underscore, which has a meaning of its own in a definition.
 ghost use mathlib.Core.Path.{_≡_};
-ghost use Rattle.layouts.specs.Formats.{bytes32, bytesK, blockBytes, blockValues};
+ghost use mathlib.Core.Bool.{true};
+ghost use Rattle.layouts.specs.Formats.{bytes32, bytesK, blockBytes, blockValues, knownFormat, formatOf};
 
 // The formats with 32 values to a block.
 pub enum Format32 {
@@ -56,5 +57,27 @@ pub fn block_values(format: Format) -> usize
     match format {
         Format::Of32(_) => 32,
         Format::OfK(_) => 256,
+    }
+}
+
+// Whether a layer's format byte is known: 4 is Q4_K, 6 is Q6_K.
+pub fn known_format(byte: u8) -> bool
+    ensures { λ r. ⌜ r ≡ knownFormat byte ⌝ }
+{
+    if byte == 4 {
+        return true;
+    }
+    byte == 6
+}
+
+// The format that a known byte names.
+pub fn format_of(byte: u8) -> FormatK
+    requires { ⌜ knownFormat byte ≡ true ⌝ }
+    ensures { λ r. ⌜ r ≡ formatOf byte ⌝ }
+{
+    if byte == 4 {
+        FormatK::Q4K
+    } else {
+        FormatK::Q6K
     }
 }

@@ -8,6 +8,8 @@ pub use format::Format32;
 pub use format::FormatK;
 pub use format::block_bytes;
 pub use format::block_values;
+pub use format::format_of;
+pub use format::known_format;
 pub use k::minimum_q4k;
 pub use k::minimums_q4k;
 pub use k::quants_q4k;

@@ -4,7 +4,7 @@ use mathlib.Core.Bool.{Bool, true, false}
 use Prim.Native.Nat.{ℕ, zero, suc, _<_}
 use native.Mathlib.Omega.{arith}
 use Rattle.refusals.specs.Said.{done, refused}
-use Rattle.refusals.specs.Refusals.{given, carriedOut}
+use Rattle.refusals.specs.Refusals.{given, orElse, carriedOut}
 
 -- a check that fails the call gives its number
 pub given-yes : (num later : ℕ) (check : Bool) → check ≡ true → given num check later ≡ num
@@ -24,6 +24,22 @@ unfolding given
 given-none num later true p e = absurd (omega arith)
 given-none num later false p e = (refl, e)
 
+-- earlier checks that gave a number, and earlier checks that gave none
+pub else-first : (num later : ℕ) → (num ≡ 0 → ⊥) → orElse num later ≡ num
+unfolding orElse
+else-first zero later h = absurd (h refl)
+else-first (suc num) later h = refl
+
+pub else-later : (num later : ℕ) → num ≡ 0 → orElse num later ≡ later
+unfolding orElse
+else-later zero later e = refl
+else-later (suc num) later e = absurd (omega arith)
+
+pub else-none : (num later : ℕ) → orElse num later ≡ 0 → (num ≡ 0) × (later ≡ 0)
+unfolding orElse
+else-none zero later e = (refl, e)
+else-none (suc num) later e = absurd (omega arith)
+
 pub carried-done : {A : Type 0} (num : ℕ) (new old : A) → num ≡ 0 → carriedOut num new old ≡ (done, new)
 unfolding carriedOut
 carried-done zero new old e = refl
@@ -33,3 +49,9 @@ pub carried-refused : {A : Type 0} (num : ℕ) (new old : A) → (num ≡ 0 → 
 unfolding carriedOut
 carried-refused zero new old e = absurd (e refl)
 carried-refused (suc num) new old e = refl
+
+-- a call that says it is done gave no number
+pub carried-none : {A : Type 0} (num : ℕ) (new old : A) → carriedOut num new old .0 ≡ done → num ≡ 0
+unfolding carriedOut
+carried-none zero new old e = refl
+carried-none (suc num) new old e = let z : _≡_ {A = ℕ} 0 1 = cc in absurd (omega arith)

@@ -1,48 +1,35 @@
 -- `dot::block_dot_q4k` meets its contract. Assumes nothing.
 use mathlib.Core.Path.{_∙_}
-use mir.Syntax.{w32}
-use Rattle.numbers.proofs.Signed.{read-is}
-use Rattle.activations.specs.Dots.{blockDot}
-use Rattle.activations.proofs.Dots.{scaled-is, less-is}
 use borrow.Author.Needs.{needs}
+use Rattle.layouts.specs.declared.format.FormatK.the-variants.{Q4K}
+use Rattle.activations.proofs.Dots.{cut-dot}
 use Rattle.activations.proofs.dot.block_dot_q4k.Statement.{statement}
 use Rattle.activations.proofs.dot.block_dot_q4k.Tie as tie
 
-sum-q4k-requires : tie.Need-sum-q4k-requires
-sum-q4k-requires c κs = search needs
+cut-requires : tie.Need-cut-requires
+cut-requires c κs = search needs
 
-whole-to-f32-requires : tie.Need-whole-to-f32-requires
-whole-to-f32-requires c κs = search needs
+slice-aggregate-held-dot-q4k : tie.Need-slice-aggregate-held-dot-q4k
+slice-aggregate-held-dot-q4k c = search needs
 
-minimum-sum-requires : tie.Need-minimum-sum-requires
-minimum-sum-requires c κs = search needs
+slice-aggregate-held-dot-q4k-2 : tie.Need-slice-aggregate-held-dot-q4k-2
+slice-aggregate-held-dot-q4k-2 c = search needs
 
-whole-to-f32-requires-2 : tie.Need-whole-to-f32-requires-2
-whole-to-f32-requires-2 c κs = search needs
-
-half-at-requires : tie.Need-half-at-requires
-half-at-requires c κs = search needs
-
-half-at-requires-2 : tie.Need-half-at-requires-2
-half-at-requires-2 c κs = search needs
+held-dot-q4k-requires : tie.Need-held-dot-q4k-requires
+held-dot-q4k-requires c κs = search needs
 
 returns : tie.Need-returns
-unfolding blockDot
 returns c =
-    let m = c .before .before in
-    let a = m .before .before .before .before in
-    let dx = a .before .before .before .before .args .t2 .d in
-    less-is (scaled-is dx (c .before .half-at .ensures) (a .whole-to-f32 .ensures) (read-is w32 _ (a .before .sum-q4k .ok) ∙ a .before .sum-q4k .ensures))
-    (scaled-is dx (c .half-at2 .ensures) (m .whole-to-f322 .ensures) (read-is w32 _ (m .before .minimum-sum .ok) ∙ m .before .minimum-sum .ensures))
+    let b = c .before .before .before .before in
+    let t = b .before .before .before in
+    c .held-dot-q4k .ensures ∙ cut-dot Q4K (t .args .w .now) (t .args .xq) (b .cut .result) (t .args .n) (t .pre .2) (b .cut .ensures)
 
 pub block-dot-q4k-spec : {M : Type 1} → statement M
 block-dot-q4k-spec =
     tie.close
     (tie.spec
-    sum-q4k-requires
-    whole-to-f32-requires
-    minimum-sum-requires
-    whole-to-f32-requires-2
-    half-at-requires
-    half-at-requires-2
+    cut-requires
+    slice-aggregate-held-dot-q4k
+    slice-aggregate-held-dot-q4k-2
+    held-dot-q4k-requires
     returns)

@@ -4,6 +4,7 @@ use Prim.Native.Nat.{_+_, _-_, _*_}
 use native.Mathlib.Omega.{arith}
 use lib.Seq.{length-take-le}
 use Rattle.memory.proofs.Filled.{part-length}
+use Rattle.layouts.specs.declared.format.FormatK.the-variants.{Q4K}
 use Rattle.activations.specs.Blocks.{SmallSums}
 use Rattle.activations.specs.Rows.{blocksIn}
 use Rattle.activations.proofs.Bounds.{small-sums}
@@ -12,7 +13,7 @@ use Rattle.activations.proofs.row.row_dot.Statement.{statement}
 use Rattle.activations.proofs.row.row_dot.Tie as tie
 
 abbrev Inv-loop : tie.InvT-loop
-Inv-loop x w n blocks parts₀ b₀ parts b = Parts x w n parts₀ parts b
+Inv-loop x w n blocks parts₀ b₀ parts b = Parts Q4K x w n parts₀ parts b
 
 abbrev μ-loop : tie.MeasureT-loop
 μ-loop x w n blocks parts₀ b₀ parts b = blocksIn n - b
@@ -21,7 +22,7 @@ blocks-in-requires : tie.Need-blocks-in-requires Inv-loop μ-loop
 blocks-in-requires c κs = omega arith
 
 loop-holds : tie.Need-loop-holds Inv-loop μ-loop
-loop-holds c = parts-start _ _ _ _ refl
+loop-holds c = parts-start Q4K _ _ _ _ refl
 
 mul-s : tie.Need-mul-s Inv-loop μ-loop
 mul-s c = omega arith
@@ -92,8 +93,8 @@ loop-again c =
     let e = c .before .before .before .before .block-end in
     let t = c .before .before .before .before .before .before in
     let a = t .before .before .before .before .args in
-    let v = c .block-dot-q4k .ensures ∙ block-is (a .x .now) (a .w .now) (a .n) (t .loop .b) (e .result) (q .result) (e .ensures .0) (q .ensures) in
-    parts-more (a .x .now) (a .w .now) (a .n) _ (t .loop .parts) (t .loop .b) _ refl (omega arith) (omega arith) v (t .loop .inv)
+    let v = c .block-dot-q4k .ensures ∙ block-is Q4K (a .x .now) (a .w .now) (a .n) (t .loop .b) (e .result) (q .result) (e .ensures .0) (q .ensures) in
+    parts-more Q4K (a .x .now) (a .w .now) (a .n) _ (t .loop .parts) (t .loop .b) _ refl (omega arith) (omega arith) v (t .loop .inv)
 
 array-borrow-prefix-parts : tie.Need-array-borrow-prefix-parts Inv-loop μ-loop
 array-borrow-prefix-parts c = omega arith
@@ -111,7 +112,7 @@ returns c =
     let b = c .before .before .before .before in
     let a = b .before .before .before .before .args in
     let m = b .before .blocks-in in
-    parts-met (a .x .now) (a .w .now) (a .n) _ (b .loop .parts) _ (b .loop .b) (m .result) _ (omega arith) (m .ensures) (c .before .canonical-combine .ensures) (b .loop .inv)
+    parts-met Q4K (a .x .now) (a .w .now) (a .n) _ (b .loop .parts) _ (b .loop .b) (m .result) _ (omega arith) (m .ensures) (c .before .canonical-combine .ensures) (b .loop .inv)
 
 pub row-dot-spec : {M : Type 1} → statement M
 row-dot-spec =

@@ -31,13 +31,13 @@ cast-weighed c = record { sfits = omega (arith, c .minimum-q4k .ensures .1) }
 mul-weighed : tie.Need-mul-weighed Inv-loop μ-loop
 mul-weighed c = omega arith
 
-element-copy-out-weighed : tie.Need-element-copy-out-weighed Inv-loop μ-loop
-element-copy-out-weighed c = omega arith
+shared-slice-copy-out-weighed : tie.Need-shared-slice-copy-out-weighed Inv-loop μ-loop
+shared-slice-copy-out-weighed c = omega arith
 
 weighed-requires : tie.Need-weighed-requires Inv-loop μ-loop
 weighed-requires c κs =
     let b = c .before .before .before in
-    rw (read-is w32 _ (c .weighed-arg .given)) (within (b .before .before .pre .1 (b .loop .j) (omega arith)) (omega arith))
+    rw (read-is w32 _ (c .weighed-arg .given)) (within (b .before .before .pre .2 (b .loop .j) (omega arith)) (omega arith))
 
 -- the turn's product
 turn : (c : tie.After-weighed Inv-loop μ-loop)
@@ -76,7 +76,7 @@ minimum-sum-spec =
     minimum-q4k-requires
     cast-weighed
     mul-weighed
-    element-copy-out-weighed
+    shared-slice-copy-out-weighed
     weighed-requires
     add-m
     add-j

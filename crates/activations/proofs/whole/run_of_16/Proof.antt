@@ -32,8 +32,8 @@ element-copy-out-product c = omega arith
 add-product-2 : tie.Need-add-product-2 Inv-loop μ-loop
 add-product-2 c = omega arith
 
-element-copy-out-product-2 : tie.Need-element-copy-out-product-2 Inv-loop μ-loop
-element-copy-out-product-2 c = omega arith
+shared-slice-copy-out-product : tie.Need-shared-slice-copy-out-product Inv-loop μ-loop
+shared-slice-copy-out-product c = omega arith
 
 product-requires : tie.Need-product-requires Inv-loop μ-loop
 product-requires c κs = tt
@@ -71,7 +71,7 @@ run-of-16-spec =
     add-product
     element-copy-out-product
     add-product-2
-    element-copy-out-product-2
+    shared-slice-copy-out-product
     product-requires
     add-s
     add-l

@@ -42,20 +42,20 @@ element-copy-out-two-products c = omega arith
 add-two-products-2 : tie.Need-add-two-products-2 Inv-loop μ-loop
 add-two-products-2 c = omega arith
 
-element-copy-out-two-products-2 : tie.Need-element-copy-out-two-products-2 Inv-loop μ-loop
-element-copy-out-two-products-2 c = omega arith
+shared-slice-copy-out-two-products : tie.Need-shared-slice-copy-out-two-products Inv-loop μ-loop
+shared-slice-copy-out-two-products c = omega arith
 
 add-two-products-3 : tie.Need-add-two-products-3 Inv-loop μ-loop
 add-two-products-3 c = omega arith
 
-element-copy-out-two-products-3 : tie.Need-element-copy-out-two-products-3 Inv-loop μ-loop
-element-copy-out-two-products-3 c = omega arith
+element-copy-out-two-products-2 : tie.Need-element-copy-out-two-products-2 Inv-loop μ-loop
+element-copy-out-two-products-2 c = omega arith
 
 add-two-products-4 : tie.Need-add-two-products-4 Inv-loop μ-loop
 add-two-products-4 c = omega arith
 
-element-copy-out-two-products-4 : tie.Need-element-copy-out-two-products-4 Inv-loop μ-loop
-element-copy-out-two-products-4 c = omega arith
+shared-slice-copy-out-two-products-2 : tie.Need-shared-slice-copy-out-two-products-2 Inv-loop μ-loop
+shared-slice-copy-out-two-products-2 c = omega arith
 
 two-products-requires : tie.Need-two-products-requires Inv-loop μ-loop
 two-products-requires c κs = tt
@@ -101,11 +101,11 @@ run-of-32-spec =
     add-two-products
     element-copy-out-two-products
     add-two-products-2
-    element-copy-out-two-products-2
+    shared-slice-copy-out-two-products
     add-two-products-3
-    element-copy-out-two-products-3
+    element-copy-out-two-products-2
     add-two-products-4
-    element-copy-out-two-products-4
+    shared-slice-copy-out-two-products-2
     two-products-requires
     add-s
     add-l

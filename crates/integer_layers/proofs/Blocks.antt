@@ -1,0 +1,111 @@
+-- A row's blocks as they are held: a block is laid behind those that are held already, and is lent again as its parts. Assumes nothing.
+use mathlib.Core.Path.{_≡_, sym, ap, _∙_, subst}
+use mathlib.Core.List.{List, _++_}
+use Prim.Native.Nat.{ℕ, _+_, _-_, _*_, _≤_, _<_}
+use native.Mathlib.Nat.{not-suc-le-zero}
+use native.Mathlib.Omega.{arith}
+use borrow.Author.Count.{below-more}
+use lib.IntN.{ℤ, pos}
+use lib.ListN.{length, getD, take, drop, set, replicate, length-replicate, length-append, length-drop, List·getD-append}
+use lib.Seq.{getD-take, getD-set-same, getD-set-other, length-take-le, take-at, drop-at, ext-getD}
+use lib.Ieee.{Float, nan}
+use Rattle.memory.specs.Lists.{part}
+use Rattle.memory.proofs.Filled.{length-table, part-at}
+use Rattle.activations.specs.declared.block.Q8Block.{Q8Block}
+use Rattle.activations.specs.Blocks.{heldBlock, blockOf, SmallSums}
+use Rattle.activations.proofs.Bounds.{small-sums}
+use Rattle.integer_layers.specs.Held.{blockHeld, Room, Held, Holds}
+
+module _ {A : Type 0} (d : A) where
+  part-long : (xs : List A) (i n : ℕ) → i + n ≤ length xs → length (part xs i n) ≡ n
+  part-long xs i n h = length-take-le n (drop i xs) (rw length-drop (omega arith))
+
+  -- a part of what stands before a
+  pub part-before : (xs ys : List A) (a i n : ℕ) → i + n ≤ a → a ≤ length xs → part (take a xs ++ ys) i n ≡ part xs i n
+  part-before xs ys a i n h k =
+      let front : length (take a xs) ≡ a = length-take-le a xs k in
+      let room : i + n ≤ length (take a xs ++ ys) = rw (length-append, front) (omega arith) in
+      let long = part-long (take a xs ++ ys) i n room in
+      let short : i + n ≤ length xs = omega arith in
+      ext-getD d (part (take a xs ++ ys) i n) (part xs i n) (long ∙ sym (part-long xs i n short)) (λ j l.
+      let b : j < n = subst (λ (z : ℕ). j < z) long l in
+      let c : i + j < length (take a xs) = rw front (omega arith) in
+      let e : i + j < a = omega arith in
+      part-at (take a xs ++ ys) i n j d b ∙ List·getD-append (take a xs) ys d (i + j) c ∙ getD-take a xs (i + j) d e ∙ sym (part-at xs i n j d b))
+
+-- the part that was laid at a
+pub part-laid : {A : Type 0} (xs ys zs : List A) (a k : ℕ) → a ≤ length xs → length ys ≡ k → part (take a xs ++ (ys ++ zs)) a k ≡ ys
+part-laid xs ys zs a k h e = ap (take k) (drop-at (take a xs) (ys ++ zs) a (length-take-le a xs h)) ∙ take-at ys zs k e
+
+-- a part of k places that was laid leaves the list as long as it was
+pub laid-long : {A : Type 0} (xs ys : List A) (a k e : ℕ) → e ≡ a + k → e ≤ length xs → length ys ≡ k → length (take a xs ++ (ys ++ drop (e - a) (drop a xs))) ≡ length xs
+laid-long xs ys a k e E h y =
+    let front : length (take a xs) ≡ a = length-take-le a xs (omega arith) in
+    rw (length-append, length-append, length-drop, length-drop, front, y) (omega arith)
+
+pub block-long : (x : List Float) → (length (blockOf x .qs) ≡ 256) × (length (blockOf x .bsums) ≡ 8)
+unfolding blockOf
+block-long x = (length-table _ 256, length-table _ 8)
+
+same-block : {d e : Float} {p q s t : List ℤ} → d ≡ e → p ≡ q → s ≡ t → heldBlock d p s ≡ heldBlock e q t
+same-block {d} {e} {p} {q} {s} {t} h k l = ap (λ (v : Float). heldBlock v p s) h ∙ ap (λ (v : List ℤ). heldBlock e v s) k ∙ ap (heldBlock e q) l
+
+-- ---- one block a turn
+
+pub holds-none : (x : List Float) (ds : List Float) (qs sums : List ℤ) → Holds x 0 ds qs sums
+holds-none x ds qs sums = record { at = λ t h. absurd (not-suc-le-zero h) }
+
+-- the block b of the next 256 readings is laid at t: quants is its quants, and eight its sums
+pub holds-more : (x ds : List Float) (qs sums quants eight after behind : List ℤ) (t : ℕ) (b : Q8Block) → Holds x t ds qs sums → t < length ds → 256 * t ≤ length qs → 8 * t ≤ length sums
+    → b ≡ blockOf (part x (256 * t) 256) → quants ≡ b .qs → eight ≡ b .bsums
+    → Holds x (t + 1) (set ds t (b .d)) (take (256 * t) qs ++ (quants ++ after)) (take (8 * t) sums ++ (eight ++ behind))
+holds-more x ds qs sums quants eight after behind t b h room-d room-q room-s e eq es =
+    let laid-q = take (256 * t) qs ++ (quants ++ after) in
+    let laid-s = take (8 * t) sums ++ (eight ++ behind) in
+    let long = block-long (part x (256 * t) 256) in
+    let long-q : length quants ≡ 256 = ap length eq ∙ ap (λ (c : Q8Block). length (c .qs)) e ∙ long .0 in
+    let long-s : length eight ≡ 8 = ap length es ∙ ap (λ (c : Q8Block). length (c .bsums)) e ∙ long .1 in
+    record {
+      at =
+          below-more (λ (u : ℕ). blockHeld (set ds t (b .d)) laid-q laid-s u ≡ blockOf (part x (256 * u) 256)) t
+          (λ u l.
+          same-block
+          (getD-set-other ds t u (b .d) nan (λ s. omega arith))
+          (part-before (pos 0) qs (quants ++ after) (256 * t) (256 * u) 256 (omega arith) room-q)
+          (part-before (pos 0) sums (eight ++ behind) (8 * t) (8 * u) 8 (omega arith) room-s)
+          ∙ h .at u l)
+          (same-block (getD-set-same ds t (b .d) nan room-d) (part-laid qs quants after (256 * t) 256 room-q long-q ∙ eq) (part-laid sums eight behind (8 * t) 8 room-s long-s ∙ es) ∙ e);
+    }
+
+-- ---- blocks that are held
+
+-- room for N blocks, as it is made
+pub room-new : (n N : ℕ) (d : Float) (q s : ℤ) → n ≤ N → Room n (replicate N d) (replicate (256 * N) q) (replicate (8 * N) s)
+room-new n N d q s h = record { scales = rw length-replicate h; quants = rw length-replicate (omega arith); eights = rw length-replicate (omega arith) }
+
+-- as much room in lists as long
+pub room-same : (n : ℕ) (ds ds′ : List Float) (qs qs′ sums sums′ : List ℤ) → length ds′ ≡ length ds → length qs′ ≡ length qs → length sums′ ≡ length sums → Room n ds qs sums → Room n ds′ qs′ sums′
+room-same n ds ds′ qs qs′ sums sums′ d q s r = record { scales = omega arith; quants = omega arith; eights = omega arith }
+
+pub held-less : (n k : ℕ) (ds : List Float) (qs sums : List ℤ) → k ≤ n → Held n ds qs sums → Held k ds qs sums
+held-less n k ds qs sums h g =
+    let r = g .room in
+    record { room = record { scales = omega arith; quants = omega arith; eights = omega arith }; small = λ t l. g .small t (omega arith) }
+
+-- blocks of readings have small sums
+pub held-by : (x : List Float) (n : ℕ) (ds : List Float) (qs sums : List ℤ) → Room n ds qs sums → Holds x n ds qs sums → Held n ds qs sums
+held-by x n ds qs sums r h = record { room = r; small = λ t l. subst SmallSums (sym (h .at t l)) (small-sums (part x (256 * t) 256)) }
+
+-- block t, as it is lent
+pub lent-held : (ds : List Float) (qs sums : List ℤ) (t : ℕ)
+    → heldBlock (getD ds t nan) (take (256 * t + 256 - 256 * t) (drop (256 * t) qs)) (take (8 * t + 8 - 8 * t) (drop (8 * t) sums)) ≡ blockHeld ds qs sums t
+lent-held ds qs sums t =
+    let q : 256 * t + 256 - 256 * t ≡ 256 = omega arith in
+    let s : 8 * t + 8 - 8 * t ≡ 8 = omega arith in
+    rw (q, s)
+
+-- part t of several, as it is lent
+pub lent-part : {A : Type 0} (xs : List A) (t size k : ℕ) → size ≡ k → take (t * size + size - t * size) (drop (t * size) xs) ≡ part xs (t * k) k
+lent-part xs t size k e =
+    let d : t * size + size - t * size ≡ size = omega arith in
+    rw (d, e)

@@ -1,0 +1,32 @@
+// How the dots of a row's blocks meet.
+ghost use mathlib.Core.Path.{_≡_};
+ghost use lib.ListN.{length};
+ghost use Rattle.sums.specs.Lanes.{values};
+ghost use Rattle.integer_layers.specs.Meets.{running, meets};
+
+// In the tree, or, in the `_rs` layers, in a running sum from +0.0.
+pub enum Meeting {
+    Tree,
+    Running,
+}
+
+// The running sum of all of x.
+fn running_sum(x: &[f32]) -> f32
+    ensures { λ r. ⌜ r ≡ running (values (now (x .entry))) (length (now (x .entry))) ⌝ }
+{
+    let mut sum: f32 = 0.0;
+    for i in 0..x.len() {
+        sum = sum + x[i];
+    }
+    sum
+}
+
+// The dots of a row's blocks, met. The tree is worked in their slice.
+pub(crate) fn meet(meeting: Meeting, parts: &mut [f32]) -> f32
+    ensures { λ r. ⌜ r ≡ meets meeting (values (now (parts .entry))) (length (now (parts .entry))) ⌝ }
+{
+    match meeting {
+        Meeting::Tree => sums::canonical_combine(parts),
+        Meeting::Running => running_sum(parts),
+    }
+}

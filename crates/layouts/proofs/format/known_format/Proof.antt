@@ -1,0 +1,13 @@
+-- `format::known_format` meets its contract. Assumes nothing.
+use borrow.Author.Tests.{eq-eqb, ne-eqb}
+use Rattle.layouts.proofs.format.known_format.Statement.{statement}
+use Rattle.layouts.proofs.format.known_format.Tie as tie
+
+returns : tie.Need-returns
+returns c = simp (eq-eqb _ _ (c .if1 .taken))
+
+returns-2 : tie.Need-returns-2
+returns-2 c = simp (ne-eqb _ _ (c .if1 .left))
+
+pub known-format-spec : {M : Type 1} → statement M
+known-format-spec = tie.close (tie.spec returns returns-2)

@@ -1,0 +1,76 @@
+-- What the rows come to: the one-go dot of demand 3 is what the row dots of other crates say of the same row, and a layer with no readings has no pieces. Assumes nothing.
+use Prim.Native.Nat.{ℕ, _*_, _/_, _%_, _≤_, _<_}
+use mathlib.Core.Path.{_≡_, refl, sym, ap, _∙_}
+use mathlib.Core.List.{List}
+use native.Mathlib.Omega.{arith}
+use native.Mathlib.Nat.{mul-zero, le-refl, mul-mod-left}
+use native.Mathlib.Decide.{ℕ-discrete}
+use borrow.Author.Tests.{le-ltb, ne-eqb}
+use lib.ListN.{length, drop, length-drop}
+use lib.Seq.{length-take-le}
+use lib.Ieee.{Float}
+use Rattle.refusals.specs.Said.{value}
+use Rattle.refusals.specs.Sizes.{mostIn}
+use Rattle.memory.specs.Lists.{table}
+use Rattle.memory.proofs.Filled.{length-table}
+use Rattle.numbers.specs.Steps.{nought}
+use Rattle.layouts.specs.Formats.{bytesK, formatOf}
+use Rattle.sums.specs.Tree.{tree, met}
+use Rattle.sums.specs.Lanes.{products}
+use Rattle.sums.specs.Rows.{rowSum}
+use Rattle.sums.specs.Says.{dotSays}
+use Rattle.sums.proofs.TreeLaws.{tree-none}
+use Rattle.fused.specs.Says.{fusedSays}
+use Rattle.fused.proofs.Decoded.{dot-of-weights}
+use Rattle.stepped.specs.declared.shape.Layer.{Layer}
+use Rattle.stepped.specs.Layer.{chunks, pieces, rowBytes, rowOf}
+use Rattle.stepped.specs.Ready.{Ready}
+use Rattle.stepped.specs.Says.{rowMet}
+use Rattle.stepped.specs.History.{decodedRow, inOneGo}
+use Rattle.stepped.proofs.Shapes.{shaped, bytes-within, row-enough}
+
+-- ---- an in_feat of 0 has no pieces, and every row closes at +0.0
+
+no-chunks : (l : Layer) → l .«in_feat» ≡ 0 → chunks l ≡ 0
+unfolding chunks
+no-chunks l e = omega (arith, e)
+
+pub no-pieces : (l : Layer) → l .«in_feat» ≡ 0 → pieces l ≡ 0
+unfolding pieces
+no-pieces l e = rw (no-chunks l e, mul-zero)
+
+-- nothing meets in +0.0
+met-nothing : (f : ℕ → Float) (n : ℕ) → n ≡ 0 → tree (table f n) ≡ nought
+met-nothing f n e = sym (ap (λ (q : Float × List Float). q .0) (tree-none (table f n) (length-table f n ∙ e)))
+
+pub closes-at-nought : (l : Layer) (slots : List Float) (row : ℕ) → l .«in_feat» ≡ 0 → rowMet l slots row ≡ nought
+unfolding rowMet
+closes-at-nought l slots row e = met-nothing _ (chunks l) (no-chunks l e)
+
+-- ---- a row of a layer that is worked: what `canonical_dot_pub` says of the row decoded, and the fused row dots of the row's bytes
+
+dot-answered : (x y : List Float) (n : ℕ) → n ≤ mostIn → n ≤ length x → n ≤ length y → dotSays x y n ≡ value (rowSum (products x y) n)
+unfolding dotSays rowSum table tree met
+dot-answered x y n m u v = by (ℕ-discrete n 0)
+  where
+    by : Dec (n ≡ 0) → dotSays x y n ≡ value (rowSum (products x y) n)
+    by (yes z) = rw z refl
+    by (no z) = simp (le-ltb _ _ m, ne-eqb _ _ z, le-ltb _ _ v, le-ltb _ _ u)
+
+module _ (l : Layer) (w : List ℕ) (x : List Float) (row : ℕ) (ready : Ready l (length w) (length x)) (inside : row < l .«out_feat») where
+  pub dot-in-one-go : dotSays x (decodedRow l w row) (l .«in_feat») ≡ value (inOneGo l w x row)
+  unfolding inOneGo decodedRow
+  dot-in-one-go = dot-answered x (decodedRow l w row) (l .«in_feat») (shaped l (ready .shape) .inputs) (ready .readings-enough) (rw length-table (le-refl _))
+
+  row-length : length (rowOf l w row) ≡ rowBytes l
+  row-length = length-take-le (rowBytes l) (drop (row * rowBytes l) w) (rw length-drop (omega (arith, bytes-within l row (length w) inside (ready .weights-enough))))
+
+  row-whole : length (rowOf l w row) % bytesK (formatOf (l .format)) ≡ 0
+  unfolding rowBytes
+  row-whole = ap (λ (n : ℕ). n % bytesK (formatOf (l .format))) row-length ∙ mul-mod-left (l .«in_feat» / 256) (bytesK (formatOf (l .format)))
+
+  pub fused-in-one-go : fusedSays (formatOf (l .format)) x (rowOf l w row) (l .«in_feat») ≡ value (inOneGo l w x row)
+  unfolding decodedRow
+  fused-in-one-go =
+      let f = formatOf (l .format) in
+      dot-of-weights f x (rowOf l w row) (l .«in_feat») row-whole (row-enough l (ready .shape) f (length (rowOf l w row)) refl row-length) ∙ dot-in-one-go

@@ -1,0 +1,54 @@
+-- `opening::clear_slots` meets its contract. Assumes nothing.
+use native.Mathlib.Omega.{arith}
+use mathlib.Core.Path.{refl}
+use Prim.Native.Nat.{_-_}
+use lib.ListN.{length}
+use Rattle.memory.proofs.Filled.{Filling, filling-start, filling-more, filling-done}
+use Rattle.stepped.specs.Says.{noSum}
+use Rattle.stepped.proofs.opening.clear_slots.Statement.{statement}
+use Rattle.stepped.proofs.opening.clear_slots.Tie as tie
+
+abbrev Inv-loop : tie.InvT-loop
+Inv-loop slots₀ i₀ slots i = Filling noSum slots₀ (length slots₀) slots i
+
+abbrev μ-loop : tie.MeasureT-loop
+μ-loop slots₀ i₀ slots i = length slots₀ - i
+
+loop-holds : tie.Need-loop-holds Inv-loop μ-loop
+loop-holds c = filling-start noSum _ _ refl
+
+mul-slots : tie.Need-mul-slots Inv-loop μ-loop
+mul-slots c = omega arith
+
+slice-write-slots : tie.Need-slice-write-slots Inv-loop μ-loop
+slice-write-slots c = omega arith
+
+add-i : tie.Need-add-i Inv-loop μ-loop
+add-i c = omega arith
+
+loop-less : tie.Need-loop-less Inv-loop μ-loop
+loop-less c = omega arith
+
+loop-again : tie.Need-loop-again Inv-loop μ-loop
+loop-again c = let k = c .before .loop in filling-more noSum _ _ (k .slots) (k .i) _ refl (k .inv) (omega arith) refl
+
+same-length : tie.Need-same-length Inv-loop μ-loop
+same-length c = c .before .loop .inv .2
+
+returns : tie.Need-returns Inv-loop μ-loop
+returns c = let k = c .before .loop in filling-done noSum _ _ (k .slots) (k .i) refl (k .inv) (omega arith)
+
+pub clear-slots-spec : {M : Type 1} → statement M
+clear-slots-spec =
+    tie.close
+    (tie.spec
+    Inv-loop
+    μ-loop
+    loop-holds
+    mul-slots
+    slice-write-slots
+    add-i
+    loop-less
+    loop-again
+    same-length
+    returns)

@@ -1,0 +1,69 @@
+// Run: the next open pieces, as many as a budget allows.
+use crate::checks::count_open;
+use crate::checks::work_no;
+use crate::pieces::work_one;
+use crate::shape::Layer;
+use crate::shape::chunks_of;
+use crate::shape::pieces_of;
+use crate::shape::place_of;
+ghost use mathlib.Core.Path.{_≡_};
+ghost use lib.ListN.{length};
+ghost use Rattle.stepped.specs.Ready.{Ready, Room};
+ghost use Rattle.stepped.specs.Says.{work, runWork, progressSays, runSays};
+
+// What run answers: how many pieces it did and how many stay open, or a number that says no.
+pub enum Progress {
+    Ran { done: usize, left: usize },
+    Refused(u32),
+}
+
+// Works the next open pieces in row order, chunks rising, at most `budget`. Returns how many were worked.
+fn work_open(
+    l: Layer,
+    w: &[u8],
+    x: &[f32],
+    budget: usize,
+    slots: &mut [f32],
+    marks: &mut [u8],
+) -> usize
+    requires { ⌜ Ready l (length (now w)) (length (now x)) × Room l (length (now slots)) (length (now marks)) ⌝ }
+    ensures { λ r. ⌜ work (now (slots .exit)) (now (marks .exit)) r ≡ runWork l (now (w .entry)) (now (x .entry)) budget (now (slots .entry)) (now (marks .entry)) ⌝ }
+{
+    let rows = l.out_feat;
+    let chunks = chunks_of(l);
+    let mut done: usize = 0;
+    'rows: for row in 0..rows {
+        for chunk in 0..chunks {
+            if done == budget {
+                break 'rows;
+            }
+            let at = place_of(l, row, chunk);
+            if marks[at] == 0 {
+                work_one(l, w, x, row, chunk, slots, marks);
+                done += 1;
+            }
+        }
+    }
+    done
+}
+
+// Works at most `budget` open pieces, and says how many it did and how many stay open. Refuses 12, 6, 2, 3, 4 and 5, in this order.
+pub fn run(
+    l: Layer,
+    w: &[u8],
+    x: &[f32],
+    budget: usize,
+    slots: &mut [f32],
+    marks: &mut [u8],
+) -> Progress
+    ensures { λ r. ⌜ (progressSays r, (now (slots .exit), now (marks .exit))) ≡ runSays l (now (w .entry)) (now (x .entry)) budget (now (slots .entry)) (now (marks .entry)) ⌝ }
+{
+    let no = work_no(l, w.len(), x.len(), slots.len(), marks.len());
+    if no != 0 {
+        return Progress::Refused(no);
+    }
+    let done = work_open(l, w, x, budget, slots, marks);
+    let n = pieces_of(l);
+    let left = count_open(&marks[..n]);
+    Progress::Ran { done, left }
+}
