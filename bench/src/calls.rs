@@ -13,7 +13,7 @@ pub struct Call {
 }
 
 /// Every call, in the order of the table.
-pub static CALLS: [Call; 24] = [
+pub static CALLS: [Call; 28] = [
     binary16::F16_TO_F32,
     binary16::F32_TO_F16,
     block_decoders::DEQUANTIZE_Q4_0,
@@ -35,6 +35,10 @@ pub static CALLS: [Call; 24] = [
     fused_dots::Q6K_FUSED_F32_DOT,
     linear_layers::LINEAR_Q4_K_FUSED,
     linear_layers::LINEAR_Q6_K_FUSED,
+    linear_layers::LINEAR_Q4_K_INTEGER,
+    linear_layers::LINEAR_Q6_K_INTEGER,
+    linear_layers::LINEAR_Q4_K_INTEGER_RS,
+    linear_layers::LINEAR_Q6_K_INTEGER_RS,
     linear_layers::LINEAR_Q4_K_CPU,
     linear_layers::LINEAR_Q6_K_CPU,
     linear_layers::LINEAR_Q4_0_CPU,

@@ -24,6 +24,38 @@ pub const LINEAR_Q6_K_FUSED: Call = Call {
     },
 };
 
+pub const LINEAR_Q4_K_INTEGER: Call = Call {
+    name: "linear_q4_k_integer",
+    rows: || {
+        let rust = quant::linear_q4_k_integer;
+        rows(&Q4_K, 0.8, jambharrow::linear_q4_k_integer, rust)
+    },
+};
+
+pub const LINEAR_Q6_K_INTEGER: Call = Call {
+    name: "linear_q6_k_integer",
+    rows: || {
+        let rust = quant::linear_q6_k_integer;
+        rows(&Q6_K, 0.8, jambharrow::linear_q6_k_integer, rust)
+    },
+};
+
+pub const LINEAR_Q4_K_INTEGER_RS: Call = Call {
+    name: "linear_q4_k_integer_rs",
+    rows: || {
+        let rust = quant::linear_q4_k_integer_rs;
+        rows(&Q4_K, 0.8, jambharrow::linear_q4_k_integer_rs, rust)
+    },
+};
+
+pub const LINEAR_Q6_K_INTEGER_RS: Call = Call {
+    name: "linear_q6_k_integer_rs",
+    rows: || {
+        let rust = quant::linear_q6_k_integer_rs;
+        rows(&Q6_K, 0.8, jambharrow::linear_q6_k_integer_rs, rust)
+    },
+};
+
 pub const LINEAR_Q4_K_CPU: Call = Call {
     name: "linear_q4_k_cpu",
     rows: || {

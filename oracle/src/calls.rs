@@ -17,7 +17,7 @@ pub struct Call {
 
 /// Every call. A call's tag in the stored sample is its place here, so that a new one comes
 /// last.
-pub static CALLS: [Call; 24] = [
+pub static CALLS: [Call; 28] = [
     binary16::F16_TO_F32,
     binary16::F32_TO_F16,
     block_decoders::DEQUANTIZE_Q4_0,
@@ -39,6 +39,10 @@ pub static CALLS: [Call; 24] = [
     fused_dots::Q6K_FUSED_F32_DOT,
     linear_layers::LINEAR_Q4_K_FUSED,
     linear_layers::LINEAR_Q6_K_FUSED,
+    linear_layers::LINEAR_Q4_K_INTEGER,
+    linear_layers::LINEAR_Q6_K_INTEGER,
+    linear_layers::LINEAR_Q4_K_INTEGER_RS,
+    linear_layers::LINEAR_Q6_K_INTEGER_RS,
     linear_layers::LINEAR_Q4_K_CPU,
     linear_layers::LINEAR_Q6_K_CPU,
     linear_layers::LINEAR_Q4_0_CPU,

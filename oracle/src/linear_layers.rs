@@ -16,6 +16,30 @@ pub const LINEAR_Q6_K_FUSED: Call = Call {
     sample: |records| Q6_K_FUSED.sample(records),
 };
 
+pub const LINEAR_Q4_K_INTEGER: Call = Call {
+    name: "linear_q4_k_integer",
+    compare: |comparison| Q4_K_INTEGER.compare(comparison),
+    sample: |records| Q4_K_INTEGER.sample(records),
+};
+
+pub const LINEAR_Q6_K_INTEGER: Call = Call {
+    name: "linear_q6_k_integer",
+    compare: |comparison| Q6_K_INTEGER.compare(comparison),
+    sample: |records| Q6_K_INTEGER.sample(records),
+};
+
+pub const LINEAR_Q4_K_INTEGER_RS: Call = Call {
+    name: "linear_q4_k_integer_rs",
+    compare: |comparison| Q4_K_INTEGER_RS.compare(comparison),
+    sample: |records| Q4_K_INTEGER_RS.sample(records),
+};
+
+pub const LINEAR_Q6_K_INTEGER_RS: Call = Call {
+    name: "linear_q6_k_integer_rs",
+    compare: |comparison| Q6_K_INTEGER_RS.compare(comparison),
+    sample: |records| Q6_K_INTEGER_RS.sample(records),
+};
+
 pub const LINEAR_Q4_K_CPU: Call = Call {
     name: "linear_q4_k_cpu",
     compare: |comparison| Q4_K_CPU.compare(comparison),
@@ -48,6 +72,42 @@ const Q6_K_FUSED: Layer = Layer {
     rust: quant::linear_q6_k_fused,
     kind: Kind::WholeBlocks {
         ours: jambharrow::linear_q6_k_fused,
+        rust_looks: true,
+    },
+};
+
+const Q4_K_INTEGER: Layer = Layer {
+    layout: inputs::Q4_K,
+    rust: quant::linear_q4_k_integer,
+    kind: Kind::WholeBlocks {
+        ours: jambharrow::linear_q4_k_integer,
+        rust_looks: true,
+    },
+};
+
+const Q6_K_INTEGER: Layer = Layer {
+    layout: inputs::Q6_K,
+    rust: quant::linear_q6_k_integer,
+    kind: Kind::WholeBlocks {
+        ours: jambharrow::linear_q6_k_integer,
+        rust_looks: true,
+    },
+};
+
+const Q4_K_INTEGER_RS: Layer = Layer {
+    layout: inputs::Q4_K,
+    rust: quant::linear_q4_k_integer_rs,
+    kind: Kind::WholeBlocks {
+        ours: jambharrow::linear_q4_k_integer_rs,
+        rust_looks: true,
+    },
+};
+
+const Q6_K_INTEGER_RS: Layer = Layer {
+    layout: inputs::Q6_K,
+    rust: quant::linear_q6_k_integer_rs,
+    kind: Kind::WholeBlocks {
+        ours: jambharrow::linear_q6_k_integer_rs,
         rust_looks: true,
     },
 };

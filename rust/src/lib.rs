@@ -33,7 +33,9 @@ pub use fixed_order_sums::{
 };
 pub use fused_dots::{canonical_dot_q4k_fused, q6k_fused_f32_dot};
 pub use linear_layers::{
-    linear_q4_0_cpu, linear_q4_k_cpu, linear_q4_k_fused, linear_q6_k_cpu, linear_q6_k_fused,
+    linear_q4_0_cpu, linear_q4_k_cpu, linear_q4_k_fused, linear_q4_k_integer,
+    linear_q4_k_integer_rs, linear_q6_k_cpu, linear_q6_k_fused, linear_q6_k_integer,
+    linear_q6_k_integer_rs,
 };
 pub use refusal::Refusal;
 

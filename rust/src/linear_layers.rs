@@ -77,6 +77,78 @@ pub fn linear_q6_k_fused(
     linear(sys::jambharrow_linear_q6_k_fused, x, w_q6k, y_out, sizes)
 }
 
+/// Works a layer as [`linear_q4_k_fused`] does, and refuses as it does, but in whole numbers: each
+/// row of readings is made activation blocks once, and an output is
+/// [`integer_dot_q4k`](crate::integer_dot_q4k) of its two rows.
+#[inline]
+pub fn linear_q4_k_integer(
+    x: &[f32],
+    w_q4k: &[u8],
+    y_out: &mut [f32],
+    batch: usize,
+    in_feat: usize,
+    out_feat: usize,
+) -> Result<(), Refusal> {
+    let sizes = [batch, in_feat, out_feat];
+    linear(sys::jambharrow_linear_q4_k_integer, x, w_q4k, y_out, sizes)
+}
+
+/// Does with Q6_K blocks what [`linear_q4_k_integer`] does with its own, by
+/// [`dot_q6k_q8_block`](crate::dot_q6k_q8_block) of each block.
+#[inline]
+pub fn linear_q6_k_integer(
+    x: &[f32],
+    w_q6k: &[u8],
+    y_out: &mut [f32],
+    batch: usize,
+    in_feat: usize,
+    out_feat: usize,
+) -> Result<(), Refusal> {
+    let sizes = [batch, in_feat, out_feat];
+    linear(sys::jambharrow_linear_q6_k_integer, x, w_q6k, y_out, sizes)
+}
+
+/// Does what [`linear_q4_k_integer`] does, but the dots of a row's blocks meet in a running sum from
+/// +0.0, and not in the tree.
+#[inline]
+pub fn linear_q4_k_integer_rs(
+    x: &[f32],
+    w_q4k: &[u8],
+    y_out: &mut [f32],
+    batch: usize,
+    in_feat: usize,
+    out_feat: usize,
+) -> Result<(), Refusal> {
+    let sizes = [batch, in_feat, out_feat];
+    linear(
+        sys::jambharrow_linear_q4_k_integer_rs,
+        x,
+        w_q4k,
+        y_out,
+        sizes,
+    )
+}
+
+/// Does with Q6_K blocks what [`linear_q4_k_integer_rs`] does with its own.
+#[inline]
+pub fn linear_q6_k_integer_rs(
+    x: &[f32],
+    w_q6k: &[u8],
+    y_out: &mut [f32],
+    batch: usize,
+    in_feat: usize,
+    out_feat: usize,
+) -> Result<(), Refusal> {
+    let sizes = [batch, in_feat, out_feat];
+    linear(
+        sys::jambharrow_linear_q6_k_integer_rs,
+        x,
+        w_q6k,
+        y_out,
+        sizes,
+    )
+}
+
 /// `sizes` are batch, in_feat and out_feat.
 #[inline]
 fn linear_cpu(
@@ -213,6 +285,41 @@ mod tests {
     }
 
     #[test]
+    fn layers_in_whole_numbers() {
+        // The scale is 1, the quants are the readings, and no float rounds.
+        let x = [[127.0; 256], [-127.0; 256]].concat();
+        let w = [q4_k(1), q4_k(2), q4_k(3)].concat();
+        let wanted = [4064.0, 8128.0, 12192.0, -4064.0, -8128.0, -12192.0, 7.0];
+        let layers: [Plain; 2] = [linear_q4_k_integer, linear_q4_k_integer_rs];
+        for layer in layers {
+            let mut y = [7.0; 7];
+            assert_eq!(layer(&x, &w, &mut y, 2, 256, 3), Ok(()));
+            assert_eq!(y, wanted);
+        }
+        let w = [q6_k(1), q6_k(2), q6_k(3)].concat();
+        let wanted = wanted.map(|wanted| if wanted == 7.0 { 7.0 } else { 16.0 * wanted });
+        let layers: [Plain; 2] = [linear_q6_k_integer, linear_q6_k_integer_rs];
+        for layer in layers {
+            let mut y = [7.0; 7];
+            assert_eq!(layer(&x, &w, &mut y, 2, 256, 3), Ok(()));
+            assert_eq!(y, wanted);
+        }
+    }
+
+    #[test]
+    fn the_tree_keeps_a_minus_nought_and_a_running_sum_does_not() {
+        // d is -1, dmin 1, and the rest 0.
+        let mut w = [0; 144];
+        w[..4].copy_from_slice(&[0x00, 0xBC, 0x00, 0x3C]);
+        let x = [0.0; 256];
+        let mut y = [7.0];
+        assert_eq!(linear_q4_k_integer(&x, &w, &mut y, 1, 256, 1), Ok(()));
+        assert_eq!(y[0].to_bits(), 0x8000_0000);
+        assert_eq!(linear_q4_k_integer_rs(&x, &w, &mut y, 1, 256, 1), Ok(()));
+        assert_eq!(y[0].to_bits(), 0x0000_0000);
+    }
+
+    #[test]
     fn scratch_holds_the_last_row_decoded() {
         let x = two_rows();
         let mut y = [7.0; 4];
@@ -275,7 +382,15 @@ mod tests {
 
     #[test]
     fn refusals_come_in_their_order_and_keep_the_output() {
-        for layer in [linear_q4_k_fused, linear_q6_k_fused] {
+        let layers: [Plain; 6] = [
+            linear_q4_k_fused,
+            linear_q6_k_fused,
+            linear_q4_k_integer,
+            linear_q6_k_integer,
+            linear_q4_k_integer_rs,
+            linear_q6_k_integer_rs,
+        ];
+        for layer in layers {
             let mut y = [7.0; 1];
             let mut ask = |x: &[f32], w: &[u8], batch, in_feat, out_feat| {
                 let said = layer(x, w, &mut y, batch, in_feat, out_feat);
@@ -292,6 +407,9 @@ mod tests {
             assert_eq!(ask(&x, &[0; 210], 2, 256, 1), Err(Refusal::RoomShort));
         }
     }
+
+    /// A layer without scratch.
+    type Plain = fn(&[f32], &[u8], &mut [f32], usize, usize, usize) -> Result<(), Refusal>;
 
     /// A `_cpu` layer.
     type Cpu =

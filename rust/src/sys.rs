@@ -196,6 +196,51 @@ unsafe extern "C" {
         out_feat: usize,
     ) -> u32;
 
+    pub fn jambharrow_linear_q4_k_integer(
+        x: *const f32,
+        x_len: usize,
+        w: *const u8,
+        w_len: usize,
+        y: *mut f32,
+        y_len: usize,
+        batch: usize,
+        in_feat: usize,
+        out_feat: usize,
+    ) -> u32;
+    pub fn jambharrow_linear_q6_k_integer(
+        x: *const f32,
+        x_len: usize,
+        w: *const u8,
+        w_len: usize,
+        y: *mut f32,
+        y_len: usize,
+        batch: usize,
+        in_feat: usize,
+        out_feat: usize,
+    ) -> u32;
+    pub fn jambharrow_linear_q4_k_integer_rs(
+        x: *const f32,
+        x_len: usize,
+        w: *const u8,
+        w_len: usize,
+        y: *mut f32,
+        y_len: usize,
+        batch: usize,
+        in_feat: usize,
+        out_feat: usize,
+    ) -> u32;
+    pub fn jambharrow_linear_q6_k_integer_rs(
+        x: *const f32,
+        x_len: usize,
+        w: *const u8,
+        w_len: usize,
+        y: *mut f32,
+        y_len: usize,
+        batch: usize,
+        in_feat: usize,
+        out_feat: usize,
+    ) -> u32;
+
     pub fn jambharrow_linear_q4_k_cpu(
         x: *const f32,
         x_len: usize,

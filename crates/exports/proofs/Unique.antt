@@ -25,6 +25,10 @@ use Rattle.exports.proofs.fused_dots.jambharrow_canonical_dot_q4k_fused
 use Rattle.exports.proofs.fused_dots.jambharrow_q6k_fused_f32_dot.Reads as q6k-fused-f32-dot
 use Rattle.exports.proofs.linear_layers.jambharrow_linear_q4_k_fused.Reads as linear-q4-k-fused
 use Rattle.exports.proofs.linear_layers.jambharrow_linear_q6_k_fused.Reads as linear-q6-k-fused
+use Rattle.exports.proofs.linear_layers.jambharrow_linear_q4_k_integer.Reads as linear-q4-k-integer
+use Rattle.exports.proofs.linear_layers.jambharrow_linear_q6_k_integer.Reads as linear-q6-k-integer
+use Rattle.exports.proofs.linear_layers.jambharrow_linear_q4_k_integer_rs.Reads as linear-q4-k-integer-rs
+use Rattle.exports.proofs.linear_layers.jambharrow_linear_q6_k_integer_rs.Reads as linear-q6-k-integer-rs
 use Rattle.exports.proofs.linear_layers.jambharrow_linear_q4_k_cpu.Reads as linear-q4-k-cpu
 use Rattle.exports.proofs.linear_layers.jambharrow_linear_q6_k_cpu.Reads as linear-q6-k-cpu
 use Rattle.exports.proofs.linear_layers.jambharrow_linear_q4_0_cpu.Reads as linear-q4-0-cpu
@@ -92,6 +96,18 @@ linear-q4-k-fused-once κs a x y s t h k = both h k
 
 pub linear-q6-k-fused-once : OneCall linear-q6-k-fused.Post (λ κs s. now (s .1 .1 .0))
 linear-q6-k-fused-once κs a x y s t h k = both h k
+
+pub linear-q4-k-integer-once : OneCall linear-q4-k-integer.Post (λ κs s. now (s .1 .1 .0))
+linear-q4-k-integer-once κs a x y s t h k = both h k
+
+pub linear-q6-k-integer-once : OneCall linear-q6-k-integer.Post (λ κs s. now (s .1 .1 .0))
+linear-q6-k-integer-once κs a x y s t h k = both h k
+
+pub linear-q4-k-integer-rs-once : OneCall linear-q4-k-integer-rs.Post (λ κs s. now (s .1 .1 .0))
+linear-q4-k-integer-rs-once κs a x y s t h k = both h k
+
+pub linear-q6-k-integer-rs-once : OneCall linear-q6-k-integer-rs.Post (λ κs s. now (s .1 .1 .0))
+linear-q6-k-integer-rs-once κs a x y s t h k = both h k
 
 -- the number, and what the output and scratch hold then
 pub linear-q4-k-cpu-once : OneCall {M = List Float × List Float} linear-q4-k-cpu.Post (λ κs s. (now (s .1 .1 .0), now (s .1 .1 .1 .0)))
