@@ -28,6 +28,8 @@ pub enum Weights {
     Flipped,
     /// Shipped ones with NaN and infinite scales among them.
     Unreal,
+    /// Those of document 01's worked case: d is -1, dmin 1, and the rest 0, as are the readings.
+    Worked,
 }
 
 const WEIGHTS: [Weights; 4] = [
@@ -119,7 +121,7 @@ fn shapes(layer: &Layer) -> impl Iterator<Item = Sizes> {
 }
 
 /// Each shape with weights of every kind; of the longest rows one kind each. Where a layer takes
-/// more than it needs, some have more.
+/// more than it needs, some have more. Last comes document 01's worked case.
 fn every_shape(layer: &Layer) -> Vec<Asked> {
     let mut all = Vec::new();
     for (number, sizes) in shapes(layer).enumerate() {
@@ -141,7 +143,18 @@ fn every_shape(layer: &Layer) -> Vec<Asked> {
             all.push(asked);
         }
     }
+    all.push(worked(layer));
     all
+}
+
+/// One block against one row of readings, document 01's worked case.
+fn worked(layer: &Layer) -> Asked {
+    let sizes = Sizes {
+        batch: 1,
+        in_feat: layer.layout.values,
+        out_feat: 1,
+    };
+    exact(layer, sizes, Weights::Worked)
 }
 
 /// Each shape of short rows with weights that were cut or lengthened.
@@ -310,6 +323,7 @@ pub fn sample(layer: &Layer) -> Vec<Asked> {
         })
         .collect();
     all.extend(WEIGHTS.map(|weights| exact(layer, sizes(2, values, 3), weights)));
+    all.push(worked(layer));
     let whole = exact(layer, sizes(2, values, 2), Weights::Shipped);
     let changed = |change: fn(&mut Lengths)| {
         let mut asked = whole;

@@ -5,7 +5,7 @@ use crate::layer_cases::{self, Asked, Lengths, Sizes, Weights};
 use crate::sample::{count, floats, Records, STOOD};
 use jambharrow::{Refusal, MOST_BATCH, MOST_IN, MOST_OUT};
 use oracle::error::Result as RustResult;
-use oracle::inputs::{row, trained_scale, Layout, SCALES};
+use oracle::inputs::{row, set_scale, trained_scale, Layout, SCALES};
 use oracle::random::Random;
 use std::panic::{self, AssertUnwindSafe};
 
@@ -267,6 +267,9 @@ impl Layer {
     fn inputs(&self, random: &mut Random, asked: Asked) -> (Vec<f32>, Vec<u8>) {
         let Asked { sizes, lengths, .. } = asked;
         let mut x = Vec::new();
+        if asked.weights == Weights::Worked {
+            x.resize(lengths.readings, 0.0);
+        }
         while x.len() < lengths.readings {
             let len = sizes.in_feat.clamp(1, lengths.readings - x.len());
             x.extend(row(random, len));
@@ -278,6 +281,7 @@ impl Layer {
         let blocks = len.div_ceil(self.layout.bytes);
         let mut w = match weights {
             Weights::Random => random.bytes(len),
+            Weights::Worked => self.worked(blocks),
             Weights::Shipped | Weights::Flipped => {
                 self.layout.blocks(random, blocks, trained_scale)
             }
@@ -290,6 +294,17 @@ impl Layer {
         if weights == Weights::Flipped && len > 0 {
             for _ in 0..=random.below(8) {
                 w[random.below(len)] ^= 1 << random.below(8);
+            }
+        }
+        w
+    }
+
+    /// Blocks of zeros, but that the scale d is -1 and dmin, where there is one, is 1.
+    fn worked(&self, blocks: usize) -> Vec<u8> {
+        let mut w = vec![0; blocks * self.layout.bytes];
+        for block in w.chunks_exact_mut(self.layout.bytes) {
+            for (&at, scale) in self.layout.scales.iter().zip([0xBC00, 0x3C00]) {
+                set_scale(block, at, scale);
             }
         }
         w

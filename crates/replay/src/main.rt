@@ -13,14 +13,12 @@ mod block_decoders;
 mod block_quantizers;
 mod blocks;
 mod calls;
-mod findings;
 mod fixed_order_sums;
-mod payload;
 mod records;
 mod report;
 mod row_dots;
 
-use findings::Finding;
+use stored_answers::Finding;
 
 // How far the replay is: whether it goes on, the byte at which the next record begins, and of the call whose records are read the answers so far and how
 // many of them differ.

@@ -2,8 +2,8 @@
 use Prim.Native.Nat.{_-_}
 use lib.ListN.{length}
 use borrow.Author.Needs.{needs}
-use Rattle.replay.proofs.payload.same_floats.Statement.{statement}
-use Rattle.replay.proofs.payload.same_floats.Tie as tie
+use Rattle.stored_answers.proofs.payload.same_floats.Statement.{statement}
+use Rattle.stored_answers.proofs.payload.same_floats.Tie as tie
 
 abbrev Inv-loop : tie.InvT-loop
 Inv-loop payload floats i₀ i = Unit {0}

@@ -2,8 +2,8 @@
 use Prim.Native.Nat.{_-_}
 use lib.ListN.{length}
 use borrow.Author.Needs.{needs}
-use Rattle.replay.proofs.payload.same_bytes.Statement.{statement}
-use Rattle.replay.proofs.payload.same_bytes.Tie as tie
+use Rattle.stored_answers.proofs.payload.same_bytes.Statement.{statement}
+use Rattle.stored_answers.proofs.payload.same_bytes.Tie as tie
 
 abbrev Inv-loop : tie.InvT-loop
 Inv-loop payload bytes i₀ i = Unit {0}

@@ -4,8 +4,8 @@ use Prim.Native.Nat.{_-_}
 use native.Mathlib.Omega.{arith}
 use lib.ListN.{length, length-set}
 use borrow.Author.Needs.{needs}
-use Rattle.replay.proofs.payload.read_floats.Statement.{statement}
-use Rattle.replay.proofs.payload.read_floats.Tie as tie
+use Rattle.stored_answers.proofs.payload.read_floats.Statement.{statement}
+use Rattle.stored_answers.proofs.payload.read_floats.Tie as tie
 
 abbrev Inv-loop : tie.InvT-loop
 Inv-loop payload out₀ i₀ out i = length out ≡ length out₀
