@@ -9,10 +9,9 @@ ghost use mathlib.Core.Path.{_≡_};
 ghost use Prim.Native.Nat.{_*_, _/_, _≤_};
 ghost use lib.ListN.{length};
 ghost use Rattle.refusals.specs.Sizes.{mostOut};
-ghost use Rattle.memory.specs.Lists.{table, part};
+ghost use Rattle.memory.specs.Lists.{table};
 ghost use Rattle.layouts.specs.Formats.{bytesK};
 ghost use Rattle.shapes.specs.Shapes.{layerNo};
-ghost use Rattle.integer_layers.specs.Meets.{meets};
 ghost use Rattle.integer_layers.specs.Held.{heldRowDot, Room, Held};
 ghost use Rattle.integer_layers.specs.Says.{integerOutputs};
 

@@ -1,11 +1,11 @@
 -- A layer's row dots never refuse: its own checks were enough. Assumes nothing.
 use mathlib.Core.Path.{_≡_, refl, sym, ap, _∙_}
 use mathlib.Core.List.{List}
-use Prim.Native.Nat.{ℕ, zero, suc, _+_, _-_, _*_, _/_, _%_, _≤_, _<_}
-use native.Mathlib.Nat.{le-of-eq, mul-mod-left, mul-div-cancel}
+use Prim.Native.Nat.{ℕ, zero, suc, _-_, _%_, _≤_}
+use native.Mathlib.Nat.{le-of-eq}
 use native.Mathlib.Omega.{arith}
 use borrow.Author.Tests.{le-ltb, eq-eqb, ne-eqb}
-use lib.ListN.{length, take, drop}
+use lib.ListN.{length}
 use lib.Ieee.{Float}
 use Rattle.refusals.specs.Said.{value, done, refused, saidBy, outcomeSays}
 use Rattle.refusals.specs.Sizes.{mostIn}
@@ -13,11 +13,7 @@ use Rattle.refusals.specs.declared.Answer.{Answer}
 use Rattle.refusals.specs.declared.Answer.the-variants as answer
 use Rattle.refusals.specs.declared.Outcome.{Outcome}
 use Rattle.refusals.specs.declared.Outcome.the-variants as outcome
-use Rattle.layouts.specs.Formats.{bytesK}
-use Rattle.layouts.specs.Weights.{valuesOf}
 use Rattle.layouts.specs.declared.format.FormatK.{FormatK}
-use Rattle.layouts.specs.declared.format.Format.the-variants.{OfK}
-use Rattle.layouts.proofs.Sizes.{sizes}
 use Rattle.sums.specs.Tree.{tree, met}
 use Rattle.sums.specs.Lanes.{products}
 use Rattle.sums.specs.Rows.{rowSum}
@@ -25,7 +21,8 @@ use Rattle.sums.specs.Says.{dotSays}
 use Rattle.memory.specs.Lists.{table}
 use Rattle.fused.specs.Terms.{terms}
 use Rattle.fused.specs.Says.{fusedSays}
-use Rattle.shapes.specs.Shapes.{rowBytes, weightRow}
+use Rattle.shapes.specs.Shapes.{rowBytes}
+use Rattle.shapes.proofs.Rows.{row-values}
 
 -- ---- an answer that says a value
 
@@ -44,26 +41,10 @@ never-refused a num s e =
     let z : _≡_ {A = ℕ} 0 1 = cc clash in
     absurd (omega arith)
 
--- ---- a row of whole blocks
-
--- the values of a row's bytes are as many as the row has places
-pub row-values : (f : FormatK) (n room : ℕ) → n % 256 ≡ 0 → room ≡ rowBytes f n → (room % bytesK f ≡ 0) × (valuesOf (OfK f) room ≡ n)
-row-values f n room whole e =
-    let positive : 0 < bytesK f = omega (arith, sizes (OfK f)) in
-    let back : n / 256 * bytesK f / bytesK f ≡ n / 256 = mul-div-cancel (n / 256) positive in
-    let all : n / 256 * 256 ≡ n = omega arith in
-    (rw e (mul-mod-left (n / 256) (bytesK f)), rw (e, back) all)
-
--- row o of the weights, as it is lent
-pub lent-row : (f : FormatK) (w : List ℕ) (n o size : ℕ) → size ≡ rowBytes f n → take (o * size + size - o * size) (drop (o * size) w) ≡ weightRow f w n o
-lent-row f w n o size e =
-    let d : o * size + size - o * size ≡ size = omega arith in
-    rw (d, e)
-
 not-nought : (m : ℕ) → suc m ≡ 0 → ⊥
 not-nought m e = omega arith
 
--- the fused dot of such a row and as many readings
+-- the fused dot of a row of whole blocks and as many readings
 pub fused-answers : (f : FormatK) (x : List Float) (w : List ℕ) (n : ℕ) → n ≤ mostIn → n ≤ length x → n % 256 ≡ 0 → length w ≡ rowBytes f n
     → fusedSays f x w n ≡ value (rowSum (terms f x w) n)
 unfolding fusedSays rowSum tree met table

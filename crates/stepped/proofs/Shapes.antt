@@ -1,21 +1,22 @@
 -- What follows where a call's checks give no number: the layer's shape, its room, and where its pieces and rows lie. Assumes nothing.
-use Prim.Native.Nat.{ℕ, _+_, _*_, _/_, _%_, _≤_, _<_}
-use mathlib.Core.Path.{_≡_}
+use Prim.Native.Nat.{ℕ, _+_, _*_, _%_, _≤_, _<_}
+use mathlib.Core.Path.{_≡_, refl, sym}
 use mathlib.Core.Bool.{true}
 use mathlib.Core.List.{List}
 use native.Mathlib.Omega.{arith}
-use native.Mathlib.Nat.{mul-le-mul, mul-div-cancel}
+use native.Mathlib.Nat.{le-of-eq, mul-le-mul}
 use borrow.Author.Tests.{ltb-false, leb-false, eqb-true, not-false}
 use lib.Dec.{lit<}
 use lib.ListN.{length, getD}
 use Rattle.refusals.specs.Sizes.{mostIn, mostOut}
 use Rattle.refusals.proofs.Laws.{given-none, else-none}
 use Rattle.memory.proofs.Parts.{within}
-use Rattle.layouts.specs.Formats.{bytesK, knownFormat, formatOf}
+use Rattle.layouts.specs.Formats.{knownFormat, formatOf}
 use Rattle.layouts.specs.Weights.{valuesOf}
 use Rattle.layouts.specs.declared.format.FormatK.{FormatK}
 use Rattle.layouts.specs.declared.format.Format.the-variants.{OfK}
-use Rattle.layouts.proofs.Sizes.{sizes}
+use Rattle.shapes.proofs.Fits.{row-small}
+use Rattle.shapes.proofs.Rows.{row-values}
 use Rattle.stepped.specs.declared.shape.Layer.{Layer}
 use Rattle.stepped.specs.Layer.{chunks, pieces, place, rowBytes, weightNeed, openInRow}
 use Rattle.stepped.specs.Refusals.{shapeNo, roomNo, openNo, workNo, pieceNo, closeNo}
@@ -23,6 +24,7 @@ use Rattle.stepped.specs.Ready.{Ready, Room, InLayer}
 
 -- ---- the shape
 
+-- what a shape that is not refused is
 pub record Shaped (l : Layer) : Type 0 where
   pub known : knownFormat (l .format) ≡ true
   pub inputs : l .«in_feat» ≤ mostIn
@@ -44,15 +46,14 @@ module _ (l : Layer) (ok : shapeNo l ≡ 0) where
   unfolding chunks
   few-chunks = omega (arith, shaped l ok .inputs)
 
+  -- a layer's pieces, a row's bytes and a layer's bytes at most: no count of them wraps
   pub few-pieces : pieces l ≤ 1048576
   unfolding pieces
   few-pieces = mul-le-mul (shaped l ok .outputs) few-chunks
 
   pub small-row : rowBytes l ≤ 107520
   unfolding rowBytes
-  small-row =
-      let i : l .«in_feat» / 256 ≤ 512 = omega (arith, shaped l ok .inputs) in
-      mul-le-mul i (sizes (OfK (formatOf (l .format))) .1)
+  small-row = row-small (formatOf (l .format)) (l .«in_feat») (shaped l ok .inputs)
 
   pub small-need : weightNeed l ≤ 7046430720
   unfolding weightNeed
@@ -61,10 +62,7 @@ module _ (l : Layer) (ok : shapeNo l ≡ 0) where
   -- a row's bytes have its weights
   row-weights : l .«in_feat» ≤ valuesOf (OfK (formatOf (l .format))) (rowBytes l)
   unfolding rowBytes
-  row-weights =
-      let z = bytesK (formatOf (l .format)) in
-      let P : 0 < z = omega (arith, sizes (OfK (formatOf (l .format)))) in
-      rw (mul-div-cancel (l .«in_feat» / 256) P) (omega (arith, shaped l ok .whole))
+  row-weights = le-of-eq (sym (row-values (formatOf (l .format)) (l .«in_feat») _ (shaped l ok .whole) refl .1))
 
 -- so do as many bytes, by the same format
 pub row-enough : (l : Layer) → shapeNo l ≡ 0 → (f : FormatK) (k : ℕ) → f ≡ formatOf (l .format) → k ≡ rowBytes l → l .«in_feat» ≤ valuesOf (OfK f) k

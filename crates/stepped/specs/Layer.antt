@@ -1,11 +1,12 @@
 -- A layer has a format, in_feat and out_feat, one reading row, a slot and a mark per (row, chunk), row-major. Definitions only.
-use Prim.Native.Nat.{ℕ, _+_, _*_, _/_}
+use Prim.Native.Nat.{ℕ, _+_, _*_}
 use mathlib.Core.Bool.{cond}
 use mathlib.Core.List.{List, [], _∷_}
 use lib.Dec.{eqb}
 use lib.ListN.{take}
 use Rattle.memory.specs.Lists.{part}
-use Rattle.layouts.specs.Formats.{bytesK, formatOf}
+use Rattle.layouts.specs.Formats.{formatOf}
+use Rattle.shapes.specs.Shapes as shapes
 use Rattle.sums.specs.Rows.{chunksIn}
 use Rattle.stepped.specs.declared.shape.Layer.{Layer}
 
@@ -25,9 +26,9 @@ place l row c = row * chunks l + c
 
 -- ---- the weights
 
--- the bytes of a row's weights, blocks of 256 values
+-- the bytes of a row's weights
 unfoldable pub rowBytes : Layer → ℕ
-rowBytes l = l .«in_feat» / 256 * bytesK (formatOf (l .format))
+rowBytes l = shapes.rowBytes (formatOf (l .format)) (l .«in_feat»)
 
 -- the bytes of all rows' weights
 unfoldable pub weightNeed : Layer → ℕ

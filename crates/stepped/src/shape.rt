@@ -1,5 +1,4 @@
 // A layer's shape: its pieces, and where their slots, their marks and their rows' weights lie.
-use layouts::Format;
 ghost use mathlib.Core.Path.{_≡_};
 ghost use Prim.Native.Nat.{_<_};
 ghost use Rattle.refusals.specs.Refusals.{none};
@@ -43,7 +42,7 @@ pub(crate) fn row_bytes(l: Layer) -> usize
     requires { ⌜ shapeNo l ≡ none ⌝ }
     ensures { λ r. ⌜ r ≡ rowBytes l ⌝ }
 {
-    l.in_feat / 256 * layouts::block_bytes(Format::OfK(layouts::format_of(l.format)))
+    shapes::row_bytes(layouts::format_of(l.format), l.in_feat)
 }
 
 // The bytes of all rows' weights.

@@ -13,8 +13,9 @@ use Rattle.sums.specs.Rows.{rowSum}
 use Rattle.fused.specs.Terms.{terms}
 use Rattle.shapes.specs.Shapes.{rowBytes}
 use Rattle.shapes.proofs.Fits.{row-small}
+use Rattle.shapes.proofs.Rows.{lent-row}
 use Rattle.layers.specs.Says.{fusedDotAt}
-use Rattle.layers.proofs.RowDots.{value-of, no-refusal, lent-row, fused-answers}
+use Rattle.layers.proofs.RowDots.{value-of, no-refusal, fused-answers}
 use Rattle.layers.proofs.fused_rows.one_row.Statement.{statement}
 use Rattle.layers.proofs.fused_rows.one_row.Tie as tie
 
