@@ -229,6 +229,92 @@ uint32_t jambharrow_q6k_fused_f32_dot(const float *x, size_t x_len,
                                       const uint8_t *w, size_t w_len,
                                       size_t n, float *value);
 
+/* Layers: every row of readings against every row of packed weights.
+ *
+ * A layer has `batch` rows of in_feat readings, out_feat rows of in_feat weights, and an output for
+ * each pair of them: that of reading row b and weight row o goes to y[b * out_feat + o]. What it
+ * needs are products of these sizes, also where batch or out_feat is 0.
+ *
+ * Fused and integer layers, whose rows are whole blocks. Each refuses, in this order, with
+ *   JAMBHARROW_TOO_LARGE        a batch over JAMBHARROW_MOST_BATCH, an in_feat over
+ *                               JAMBHARROW_MOST_IN or an out_feat over JAMBHARROW_MOST_OUT;
+ *   JAMBHARROW_NOT_A_MULTIPLE   an in_feat that is not a multiple of 256;
+ *   JAMBHARROW_WEIGHTS_SHORT    fewer bytes than out_feat rows have;
+ *   JAMBHARROW_READINGS_SHORT   fewer than batch * in_feat readings;
+ *   JAMBHARROW_ROOM_SHORT       fewer than batch * out_feat places in y.
+ * Bytes, readings and places of y behind those that it needs are not looked at, and kept. */
+
+/* Q4_K, fused: an output is jambharrow_canonical_dot_q4k_fused of its rows. It needs at most 2,048
+ * bytes of stack. */
+uint32_t jambharrow_linear_q4_k_fused(const float *x, size_t x_len, const uint8_t *w, size_t w_len,
+                                      float *y, size_t y_len,
+                                      size_t batch, size_t in_feat, size_t out_feat);
+
+/* Q6_K, fused: the same by jambharrow_q6k_fused_f32_dot, with as much stack. */
+uint32_t jambharrow_linear_q6_k_fused(const float *x, size_t x_len, const uint8_t *w, size_t w_len,
+                                      float *y, size_t y_len,
+                                      size_t batch, size_t in_feat, size_t out_feat);
+
+/* Q4_K, in whole numbers: each row of readings is made activation blocks once, and an output is the
+ * dots of its rows' blocks, as jambharrow_dot_q4k_q8_block has them, met in the tree. The blocks of
+ * the longest row stand on the stack: it needs at most 163,840 bytes of it, whatever in_feat is. */
+uint32_t jambharrow_linear_q4_k_integer(const float *x, size_t x_len,
+                                        const uint8_t *w, size_t w_len,
+                                        float *y, size_t y_len,
+                                        size_t batch, size_t in_feat, size_t out_feat);
+
+/* Q6_K, in whole numbers: the same by jambharrow_dot_q6k_q8_block, with as much stack. */
+uint32_t jambharrow_linear_q6_k_integer(const float *x, size_t x_len,
+                                        const uint8_t *w, size_t w_len,
+                                        float *y, size_t y_len,
+                                        size_t batch, size_t in_feat, size_t out_feat);
+
+/* Q4_K, in whole numbers as jambharrow_linear_q4_k_integer and with as much stack, but the dots of
+ * the blocks meet in a running sum from +0.0. */
+uint32_t jambharrow_linear_q4_k_integer_rs(const float *x, size_t x_len,
+                                           const uint8_t *w, size_t w_len,
+                                           float *y, size_t y_len,
+                                           size_t batch, size_t in_feat, size_t out_feat);
+
+/* Q6_K, in whole numbers as jambharrow_linear_q6_k_integer and with as much stack, but the dots of
+ * the blocks meet in a running sum from +0.0. */
+uint32_t jambharrow_linear_q6_k_integer_rs(const float *x, size_t x_len,
+                                           const uint8_t *w, size_t w_len,
+                                           float *y, size_t y_len,
+                                           size_t batch, size_t in_feat, size_t out_feat);
+
+/* The `_cpu` layers decode each row of weights into `scratch`, and an output is
+ * jambharrow_canonical_dot_pub of its rows. Afterwards the first in_feat places of scratch hold the
+ * last row decoded, or what they held, where batch or out_feat is 0; places behind them are kept.
+ * Each needs at most 4,096 bytes of stack. */
+
+/* Q4_K. Rows need not be whole blocks: two rows of 128 share one. It refuses, in this order, with
+ *   JAMBHARROW_TOO_LARGE          as the layers above;
+ *   JAMBHARROW_READINGS_SHORT     any other count of readings than batch * in_feat;
+ *   JAMBHARROW_ROOM_SHORT         any other count of places in y than batch * out_feat;
+ *   JAMBHARROW_NOT_WHOLE_BLOCKS   bytes that are not whole blocks;
+ *   JAMBHARROW_WEIGHTS_SHORT      blocks of any other count of weights than out_feat * in_feat;
+ *   JAMBHARROW_ROOM_SHORT         fewer than in_feat places in scratch. */
+uint32_t jambharrow_linear_q4_k_cpu(const float *x, size_t x_len, const uint8_t *w, size_t w_len,
+                                    float *y, size_t y_len, float *scratch, size_t scratch_len,
+                                    size_t batch, size_t in_feat, size_t out_feat);
+
+/* Q6_K: the same. */
+uint32_t jambharrow_linear_q6_k_cpu(const float *x, size_t x_len, const uint8_t *w, size_t w_len,
+                                    float *y, size_t y_len, float *scratch, size_t scratch_len,
+                                    size_t batch, size_t in_feat, size_t out_feat);
+
+/* Q4_0, whose rows are whole blocks. It refuses, in this order, with
+ *   JAMBHARROW_TOO_LARGE        as the layers above;
+ *   JAMBHARROW_NOT_A_MULTIPLE   an in_feat that is not a multiple of 32;
+ *   JAMBHARROW_WEIGHTS_SHORT    any other count of bytes than out_feat rows have;
+ *   JAMBHARROW_READINGS_SHORT   any other count of readings than batch * in_feat;
+ *   JAMBHARROW_ROOM_SHORT       any other count of places in y than batch * out_feat;
+ *   JAMBHARROW_ROOM_SHORT       fewer than in_feat places in scratch. */
+uint32_t jambharrow_linear_q4_0_cpu(const float *x, size_t x_len, const uint8_t *w, size_t w_len,
+                                    float *y, size_t y_len, float *scratch, size_t scratch_len,
+                                    size_t batch, size_t in_feat, size_t out_feat);
+
 #ifdef __cplusplus
 }
 #endif

@@ -2,6 +2,7 @@
 use crate::measure::Row;
 use crate::{
     activation_blocks, binary16, block_decoders, block_quantizers, fixed_order_sums, fused_dots,
+    linear_layers,
 };
 
 pub struct Call {
@@ -12,7 +13,7 @@ pub struct Call {
 }
 
 /// Every call, in the order of the table.
-pub static CALLS: [Call; 19] = [
+pub static CALLS: [Call; 28] = [
     binary16::F16_TO_F32,
     binary16::F32_TO_F16,
     block_decoders::DEQUANTIZE_Q4_0,
@@ -32,4 +33,13 @@ pub static CALLS: [Call; 19] = [
     activation_blocks::INTEGER_DOT_Q4K,
     fused_dots::CANONICAL_DOT_Q4K_FUSED,
     fused_dots::Q6K_FUSED_F32_DOT,
+    linear_layers::LINEAR_Q4_K_FUSED,
+    linear_layers::LINEAR_Q6_K_FUSED,
+    linear_layers::LINEAR_Q4_K_INTEGER,
+    linear_layers::LINEAR_Q6_K_INTEGER,
+    linear_layers::LINEAR_Q4_K_INTEGER_RS,
+    linear_layers::LINEAR_Q6_K_INTEGER_RS,
+    linear_layers::LINEAR_Q4_K_CPU,
+    linear_layers::LINEAR_Q6_K_CPU,
+    linear_layers::LINEAR_Q4_0_CPU,
 ];

@@ -8,6 +8,9 @@ mod compare;
 mod fixed_order_sums;
 mod fused_dots;
 mod held;
+mod layer_cases;
+mod layers;
+mod linear_layers;
 mod row_dots;
 mod sample;
 

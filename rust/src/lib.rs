@@ -3,7 +3,8 @@
 //! need no set-up, keep nothing between calls and take no memory from the heap.
 //!
 //! A function has the name and the parameters of the one of quant.rs that it answers for; where
-//! that returns a vector, it fills memory that is lent to it, and where it can refuse, it says why.
+//! that returns a vector, it fills memory that is lent to it, where that decodes a layer's weights
+//! into a vector, it takes scratch for a row of them, and where it can refuse, it says why.
 //! Where a result is a NaN, its bits may be those of any NaN; every other result has the bits of
 //! quant.rs, within the sizes below.
 
@@ -13,6 +14,7 @@ mod block_decoders;
 mod block_quantizers;
 mod fixed_order_sums;
 mod fused_dots;
+mod linear_layers;
 mod refusal;
 mod row_dot;
 mod sys;
@@ -30,6 +32,11 @@ pub use fixed_order_sums::{
     canonical_chunk, canonical_combine, canonical_dot_pub, canonical_sum_pub,
 };
 pub use fused_dots::{canonical_dot_q4k_fused, q6k_fused_f32_dot};
+pub use linear_layers::{
+    linear_q4_0_cpu, linear_q4_k_cpu, linear_q4_k_fused, linear_q4_k_integer,
+    linear_q4_k_integer_rs, linear_q6_k_cpu, linear_q6_k_fused, linear_q6_k_integer,
+    linear_q6_k_integer_rs,
+};
 pub use refusal::Refusal;
 
 /// n and in_feat at most.

@@ -23,6 +23,34 @@ pub type BlockDot = unsafe extern "C" fn(
 /// The dot of a row of readings and a row of packed blocks.
 pub type RowDot = unsafe extern "C" fn(*const f32, usize, *const u8, usize, usize, *mut f32) -> u32;
 
+/// A layer: readings, weights, the output, batch, in_feat and out_feat.
+pub type Layer = unsafe extern "C" fn(
+    *const f32,
+    usize,
+    *const u8,
+    usize,
+    *mut f32,
+    usize,
+    usize,
+    usize,
+    usize,
+) -> u32;
+
+/// A `_cpu` layer: the same with scratch behind the output.
+pub type CpuLayer = unsafe extern "C" fn(
+    *const f32,
+    usize,
+    *const u8,
+    usize,
+    *mut f32,
+    usize,
+    *mut f32,
+    usize,
+    usize,
+    usize,
+    usize,
+) -> u32;
+
 unsafe extern "C" {
     pub safe fn jambharrow_f16_to_f32(half: u16) -> f32;
     pub safe fn jambharrow_f32_to_f16(bits: u32) -> u16;
@@ -143,5 +171,113 @@ unsafe extern "C" {
         w_len: usize,
         n: usize,
         value: *mut f32,
+    ) -> u32;
+
+    pub fn jambharrow_linear_q4_k_fused(
+        x: *const f32,
+        x_len: usize,
+        w: *const u8,
+        w_len: usize,
+        y: *mut f32,
+        y_len: usize,
+        batch: usize,
+        in_feat: usize,
+        out_feat: usize,
+    ) -> u32;
+    pub fn jambharrow_linear_q6_k_fused(
+        x: *const f32,
+        x_len: usize,
+        w: *const u8,
+        w_len: usize,
+        y: *mut f32,
+        y_len: usize,
+        batch: usize,
+        in_feat: usize,
+        out_feat: usize,
+    ) -> u32;
+
+    pub fn jambharrow_linear_q4_k_integer(
+        x: *const f32,
+        x_len: usize,
+        w: *const u8,
+        w_len: usize,
+        y: *mut f32,
+        y_len: usize,
+        batch: usize,
+        in_feat: usize,
+        out_feat: usize,
+    ) -> u32;
+    pub fn jambharrow_linear_q6_k_integer(
+        x: *const f32,
+        x_len: usize,
+        w: *const u8,
+        w_len: usize,
+        y: *mut f32,
+        y_len: usize,
+        batch: usize,
+        in_feat: usize,
+        out_feat: usize,
+    ) -> u32;
+    pub fn jambharrow_linear_q4_k_integer_rs(
+        x: *const f32,
+        x_len: usize,
+        w: *const u8,
+        w_len: usize,
+        y: *mut f32,
+        y_len: usize,
+        batch: usize,
+        in_feat: usize,
+        out_feat: usize,
+    ) -> u32;
+    pub fn jambharrow_linear_q6_k_integer_rs(
+        x: *const f32,
+        x_len: usize,
+        w: *const u8,
+        w_len: usize,
+        y: *mut f32,
+        y_len: usize,
+        batch: usize,
+        in_feat: usize,
+        out_feat: usize,
+    ) -> u32;
+
+    pub fn jambharrow_linear_q4_k_cpu(
+        x: *const f32,
+        x_len: usize,
+        w: *const u8,
+        w_len: usize,
+        y: *mut f32,
+        y_len: usize,
+        scratch: *mut f32,
+        scratch_len: usize,
+        batch: usize,
+        in_feat: usize,
+        out_feat: usize,
+    ) -> u32;
+    pub fn jambharrow_linear_q6_k_cpu(
+        x: *const f32,
+        x_len: usize,
+        w: *const u8,
+        w_len: usize,
+        y: *mut f32,
+        y_len: usize,
+        scratch: *mut f32,
+        scratch_len: usize,
+        batch: usize,
+        in_feat: usize,
+        out_feat: usize,
+    ) -> u32;
+    pub fn jambharrow_linear_q4_0_cpu(
+        x: *const f32,
+        x_len: usize,
+        w: *const u8,
+        w_len: usize,
+        y: *mut f32,
+        y_len: usize,
+        scratch: *mut f32,
+        scratch_len: usize,
+        batch: usize,
+        in_feat: usize,
+        out_feat: usize,
     ) -> u32;
 }

@@ -1,4 +1,6 @@
 -- Each call has one answer: at the same arguments its contract holds of no two, and of no two of what it leaves in lent memory. Assumes nothing.
+use mathlib.Core.List.{List}
+use lib.Ieee.{Float}
 use denote.Ref.{now}
 use Rattle.refusals.proofs.Once.{OneResult, OneCall, same, both}
 use Rattle.exports.specs.Blocks.{blockIn}
@@ -21,6 +23,15 @@ use Rattle.exports.proofs.fixed_order_sums.jambharrow_canonical_dot_pub
 use Rattle.exports.proofs.fixed_order_sums.jambharrow_canonical_sum_pub.Reads as canonical-sum-pub
 use Rattle.exports.proofs.fused_dots.jambharrow_canonical_dot_q4k_fused.Reads as canonical-dot-q4k-fused
 use Rattle.exports.proofs.fused_dots.jambharrow_q6k_fused_f32_dot.Reads as q6k-fused-f32-dot
+use Rattle.exports.proofs.linear_layers.jambharrow_linear_q4_k_fused.Reads as linear-q4-k-fused
+use Rattle.exports.proofs.linear_layers.jambharrow_linear_q6_k_fused.Reads as linear-q6-k-fused
+use Rattle.exports.proofs.linear_layers.jambharrow_linear_q4_k_integer.Reads as linear-q4-k-integer
+use Rattle.exports.proofs.linear_layers.jambharrow_linear_q6_k_integer.Reads as linear-q6-k-integer
+use Rattle.exports.proofs.linear_layers.jambharrow_linear_q4_k_integer_rs.Reads as linear-q4-k-integer-rs
+use Rattle.exports.proofs.linear_layers.jambharrow_linear_q6_k_integer_rs.Reads as linear-q6-k-integer-rs
+use Rattle.exports.proofs.linear_layers.jambharrow_linear_q4_k_cpu.Reads as linear-q4-k-cpu
+use Rattle.exports.proofs.linear_layers.jambharrow_linear_q6_k_cpu.Reads as linear-q6-k-cpu
+use Rattle.exports.proofs.linear_layers.jambharrow_linear_q4_0_cpu.Reads as linear-q4-0-cpu
 
 pub f16-to-f32-once : OneResult f16-to-f32.Post
 f16-to-f32-once κs a x y s t h k = same h k
@@ -79,3 +90,31 @@ canonical-dot-q4k-fused-once κs a x y s t h k = both h k
 
 pub q6k-fused-f32-dot-once : OneCall q6k-fused-f32-dot.Post (λ κs s. now (s .1 .1 .1 .0))
 q6k-fused-f32-dot-once κs a x y s t h k = both h k
+
+pub linear-q4-k-fused-once : OneCall linear-q4-k-fused.Post (λ κs s. now (s .1 .1 .0))
+linear-q4-k-fused-once κs a x y s t h k = both h k
+
+pub linear-q6-k-fused-once : OneCall linear-q6-k-fused.Post (λ κs s. now (s .1 .1 .0))
+linear-q6-k-fused-once κs a x y s t h k = both h k
+
+pub linear-q4-k-integer-once : OneCall linear-q4-k-integer.Post (λ κs s. now (s .1 .1 .0))
+linear-q4-k-integer-once κs a x y s t h k = both h k
+
+pub linear-q6-k-integer-once : OneCall linear-q6-k-integer.Post (λ κs s. now (s .1 .1 .0))
+linear-q6-k-integer-once κs a x y s t h k = both h k
+
+pub linear-q4-k-integer-rs-once : OneCall linear-q4-k-integer-rs.Post (λ κs s. now (s .1 .1 .0))
+linear-q4-k-integer-rs-once κs a x y s t h k = both h k
+
+pub linear-q6-k-integer-rs-once : OneCall linear-q6-k-integer-rs.Post (λ κs s. now (s .1 .1 .0))
+linear-q6-k-integer-rs-once κs a x y s t h k = both h k
+
+-- the number, and what the output and scratch hold then
+pub linear-q4-k-cpu-once : OneCall {M = List Float × List Float} linear-q4-k-cpu.Post (λ κs s. (now (s .1 .1 .0), now (s .1 .1 .1 .0)))
+linear-q4-k-cpu-once κs a x y s t h k = both h k
+
+pub linear-q6-k-cpu-once : OneCall {M = List Float × List Float} linear-q6-k-cpu.Post (λ κs s. (now (s .1 .1 .0), now (s .1 .1 .1 .0)))
+linear-q6-k-cpu-once κs a x y s t h k = both h k
+
+pub linear-q4-0-cpu-once : OneCall {M = List Float × List Float} linear-q4-0-cpu.Post (λ κs s. (now (s .1 .1 .0), now (s .1 .1 .1 .0)))
+linear-q4-0-cpu-once κs a x y s t h k = both h k

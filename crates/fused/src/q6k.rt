@@ -2,8 +2,16 @@
 use layouts::FormatK;
 ghost use mathlib.Core.Path.{_≡_};
 ghost use lib.ListN.{length};
+ghost use lib.Ieee.{binary32, ofInt};
 ghost use Rattle.sums.specs.Lanes.{lanesFrom};
 ghost use Rattle.fused.specs.Terms.{terms, runTerms};
+
+// A whole number as a float. It goes over an unsigned byte: SSE2 widens a signed one together with what its register held before, and so waits for the lanes.
+fn to_f32(q: i8) -> f32
+    ensures { λ r. ⌜ r ≡ ofInt binary32 q ⌝ }
+{
+    (q as i32 + 128) as u8 as f32 - 128.0
+}
 
 // Eight terms, one for each lane.
 fn eight_terms(l: [f32; 8], x: &[f32], q: &[i8], d: f32) -> [f32; 8]
@@ -12,7 +20,7 @@ fn eight_terms(l: [f32; 8], x: &[f32], q: &[i8], d: f32) -> [f32; 8]
 {
     let mut out = l;
     for i in 0..8usize {
-        out[i] = out[i] + x[i] * (d * q[i] as f32);
+        out[i] = out[i] + x[i] * (d * to_f32(q[i]));
     }
     out
 }

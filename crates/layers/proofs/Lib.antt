@@ -2,4 +2,5 @@
 pub mod RowDots
 pub mod Columns
 pub mod CpuFits
+pub mod WholeRows
 pub mod Unique

@@ -13,12 +13,8 @@ fn decode_within(format: Format, block: &[u8], from: usize, out: &mut [f32])
     ensures { λ _. ⌜ now (out .exit) ≡ table (λ i. valueIn format (now (block .entry)) (from + i)) (length (now (out .entry))) ⌝ }
 {
     let values = layouts::block_values(format);
-    if out.len() == values {
-        decoders::decode_block(format, block, out);
-        return;
-    }
     let mut whole = [0.0f32; 256];
-    decoders::decode_block(format, block, &mut whole[..values]);
+    decoders::decode_blocks(format, block, &mut whole[..values]);
     for i in 0..out.len() {
         out[i] = whole[from + i];
     }
@@ -31,7 +27,7 @@ fn smaller(a: usize, b: usize) -> usize
 }
 
 // The weights from place `from` on, as many as there is room for, a block at a time: a row may start or end inside a block.
-pub(crate) fn decode_row(format: Format, w: &[u8], from: usize, out: &mut [f32])
+fn decode_parts(format: Format, w: &[u8], from: usize, out: &mut [f32])
     requires { ⌜ (from + length (now out) ≤ valuesOf format (length (now w))) × (from + length (now out) < 2 ^ 63) ⌝ }
     ensures { λ _. ⌜ now (out .exit) ≡ table (λ i. weightAt format (now (w .entry)) (from + i)) (length (now (out .entry))) ⌝ }
 {
@@ -48,4 +44,21 @@ pub(crate) fn decode_row(format: Format, w: &[u8], from: usize, out: &mut [f32])
         decode_within(format, &w[start..stop], inside, &mut out[at..end]);
         at = end;
     }
+}
+
+// The same, but a row of whole blocks is decoded at once.
+pub(crate) fn decode_row(format: Format, w: &[u8], from: usize, out: &mut [f32])
+    requires { ⌜ (from + length (now out) ≤ valuesOf format (length (now w))) × (from + length (now out) < 2 ^ 63) ⌝ }
+    ensures { λ _. ⌜ now (out .exit) ≡ table (λ i. weightAt format (now (w .entry)) (from + i)) (length (now (out .entry))) ⌝ }
+{
+    let size = layouts::block_bytes(format);
+    let values = layouts::block_values(format);
+    let n = out.len();
+    if from % values + n % values > 0 {
+        decode_parts(format, w, from, out);
+        return;
+    }
+    let start = from / values * size;
+    let stop = start + n / values * size;
+    decoders::decode_blocks(format, &w[start..stop], out);
 }

@@ -2,12 +2,12 @@
 use crate::blocks::BLOCK;
 use crate::blocks::read_block;
 use crate::blocks::same_blocks;
-use crate::findings::Finding;
-use crate::payload::read_floats;
-use crate::payload::u32_at;
 use activations::Q8Block;
 use layouts::FormatK;
 use refusals::Answer;
+use stored_answers::Finding;
+use stored_answers::read_floats;
+use stored_answers::u32_at;
 
 // The readings at most: one more than a block has.
 const READINGS: usize = 257;

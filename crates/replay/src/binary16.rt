@@ -1,5 +1,5 @@
 // Binary16. A payload is the half and the bits of its float, or the bits of a float and its half.
-use crate::findings::Finding;
+use stored_answers::Finding;
 
 pub fn judge_binary16(tag: u8, payload: &[u8]) -> Finding {
     match tag {

@@ -1,14 +1,14 @@
 // The block decoders. A payload is how many places the output has and how many packed bytes there are, the bytes, the number that says no, 0 where
 // there is none, and what then stands in the output.
-use crate::findings::Finding;
-use crate::findings::says;
-use crate::payload::STOOD;
-use crate::payload::same_floats;
-use crate::payload::u32_at;
 use layouts::Format;
 use layouts::Format32;
 use layouts::FormatK;
 use refusals::Outcome;
+use stored_answers::Finding;
+use stored_answers::STOOD;
+use stored_answers::same_floats;
+use stored_answers::says;
+use stored_answers::u32_at;
 
 // The places of an output at most: two blocks of a K format, and one place more.
 const ROOM: usize = 513;

@@ -1,12 +1,12 @@
 // The block quantizers. A payload is how many places the output has and how many readings there are, the readings, the number that says no, 0 where
 // there is none, and what then stands in the output.
-use crate::findings::Finding;
-use crate::findings::says;
-use crate::payload::read_floats;
-use crate::payload::same_bytes;
-use crate::payload::u32_at;
 use quantizers::Target;
 use refusals::Outcome;
+use stored_answers::Finding;
+use stored_answers::read_floats;
+use stored_answers::same_bytes;
+use stored_answers::says;
+use stored_answers::u32_at;
 
 // The places of an output at most: two blocks of Q8_0, and one place more.
 const ROOM: usize = 69;

@@ -1,8 +1,8 @@
 // An activation block as it stands in a payload: its scale, its quants, a byte each, and its sums, as the floats that they are.
-use crate::findings::same_bits;
-use crate::payload::byte_at;
-use crate::payload::u32_at;
 use activations::Q8Block;
+use stored_answers::byte_at;
+use stored_answers::same_bits;
+use stored_answers::u32_at;
 
 // The bytes of a block.
 pub const BLOCK: usize = 292;

@@ -3,12 +3,12 @@ use crate::activation_blocks::judge_activation_block;
 use crate::binary16::judge_binary16;
 use crate::block_decoders::judge_block_decoder;
 use crate::block_quantizers::judge_block_quantizer;
-use crate::findings::Finding;
 use crate::fixed_order_sums::judge_fixed_order_sum;
-use crate::linear_layers::judge_linear_layer;
 use crate::report::print_name;
 use crate::row_dots::judge_row_dot;
-use crate::stepped_layer::judge_history;
+use replayed_layers::judge_history;
+use replayed_layers::judge_layer;
+use stored_answers::Finding;
 
 // The tag of a record whose payload is the name of the call before it.
 const NAME: u8 = 255;
@@ -22,7 +22,7 @@ pub fn judge(tag: u8, payload: &[u8]) -> Finding {
         11..=12 => judge_block_quantizer(tag, payload),
         13..=15 => judge_activation_block(tag, payload),
         16..=18 => judge_row_dot(tag, payload),
-        19..=27 => judge_linear_layer(tag, payload),
+        19..=27 => judge_layer(tag, payload),
         28 => judge_history(payload),
         NAME => {
             print_name(payload);

@@ -1,10 +1,10 @@
 // The fixed-order sums.
-use crate::findings::Finding;
-use crate::findings::same_bits;
-use crate::payload::read_floats;
-use crate::payload::same_floats;
-use crate::payload::u32_at;
 use refusals::Answer;
+use stored_answers::Finding;
+use stored_answers::read_floats;
+use stored_answers::same_bits;
+use stored_answers::same_floats;
+use stored_answers::u32_at;
 
 // The places of a row at most: one more than a chunk has.
 const MOST: usize = 8_193;

@@ -13,16 +13,12 @@ mod block_decoders;
 mod block_quantizers;
 mod blocks;
 mod calls;
-mod findings;
 mod fixed_order_sums;
-mod linear_layers;
-mod payload;
 mod records;
 mod report;
 mod row_dots;
-mod stepped_layer;
 
-use findings::Finding;
+use stored_answers::Finding;
 
 // How far the replay is: whether it goes on, the byte at which the next record begins, and of the call whose records are read the answers so far and how
 // many of them differ.
@@ -95,7 +91,7 @@ fn replay_all(buf: &mut [u8]) {
 }
 
 fn main() {
-    // Room for the payload of a dot or a layer that is longer than a chunk: 8,193 floats, twice.
+    // Room for the payload of a dot that is longer than a chunk: 8,193 floats, twice.
     let mut buf = [0u8; 131072];
     replay_all(&mut buf);
 }

@@ -1,8 +1,8 @@
 // The dots of a row of readings and a row of packed blocks: in whole numbers, and fused.
-use crate::findings::Finding;
-use crate::payload::read_floats;
-use crate::payload::u32_at;
 use refusals::Answer;
+use stored_answers::Finding;
+use stored_answers::read_floats;
+use stored_answers::u32_at;
 
 // The readings of a row at most: one more than a chunk has.
 const MOST: usize = 8_193;

@@ -1,5 +1,8 @@
 -- `q6k::eight_terms` meets its contract. Assumes nothing.
-use Prim.Native.Nat.{_-_}
+use mathlib.Core.Path.{sym, ap, _∙_, subst}
+use Prim.Native.Nat.{_+_, _-_}
+use lib.ListN.{getD, set}
+use lib.Ieee.{Float, nan, binary32, add, mul, ofInt}
 use mir.Syntax.{w8}
 use Rattle.numbers.proofs.Signed.{read-is}
 use Rattle.sums.proofs.LaneLaws.{Adding, adding-start, adding-more, adding-done}
@@ -16,7 +19,7 @@ abbrev μ-loop : tie.MeasureT-loop
 μ-loop x q d out₀ i₀ out i = 8 - i
 
 loop-holds : tie.Need-loop-holds Inv-loop μ-loop
-loop-holds c = adding-start (c .args .l) (runTerms (c .args .x .now) (c .args .q .now) (c .args .d)) 8 (omega arith)
+loop-holds c = let a = c .before .args in adding-start (a .l) (runTerms (a .x .now) (a .q .now) (a .d)) 8 (omega arith)
 
 mul-out : tie.Need-mul-out Inv-loop μ-loop
 mul-out c = omega arith
@@ -30,11 +33,11 @@ mul-out-2 c = omega arith
 shared-slice-read-out : tie.Need-shared-slice-read-out Inv-loop μ-loop
 shared-slice-read-out c = omega arith
 
-shared-slice-copy-out-out : tie.Need-shared-slice-copy-out-out Inv-loop μ-loop
-shared-slice-copy-out-out c = omega arith
+shared-slice-copy-out-to-f32 : tie.Need-shared-slice-copy-out-to-f32 Inv-loop μ-loop
+shared-slice-copy-out-to-f32 c = omega arith
 
-int-to-float-out : tie.Need-int-to-float-out Inv-loop μ-loop
-int-to-float-out c = search needs
+to-f32-requires : tie.Need-to-f32-requires Inv-loop μ-loop
+to-f32-requires c κs = search needs
 
 mul-out-3 : tie.Need-mul-out-3 Inv-loop μ-loop
 mul-out-3 c = omega arith
@@ -51,14 +54,17 @@ loop-less c = omega arith
 loop-again : tie.Need-loop-again Inv-loop μ-loop
 loop-again c =
     let b = c .before .before .before .before in
-    let a = b .before .args in
-    rw (read-is w8 _ (c .before .out .given))
-    (adding-more (a .l) (runTerms (a .x .now) (a .q .now) (a .d)) 8 (b .loop .out) (b .loop .i) (omega arith) (omega arith) (b .loop .inv))
+    let a = b .before .before .args in
+    let out = b .loop .out in
+    let i = b .loop .i in
+    subst (λ (v : Float). Adding (a .l) (runTerms (a .x .now) (a .q .now) (a .d)) 8 (set out i (add binary32 (getD out i nan) (mul binary32 (getD (a .x .now) i nan) (mul binary32 (a .d) v)))) (i + 1))
+    (sym (c .to-f32 .ensures ∙ ap (ofInt binary32) (read-is w8 _ (c .before .to-f32-arg .given))))
+    (adding-more (a .l) (runTerms (a .x .now) (a .q .now) (a .d)) 8 out i (omega arith) (omega arith) (b .loop .inv))
 
 returns : tie.Need-returns Inv-loop μ-loop
 returns c =
     let b = c .before in
-    let a = b .before .args in
+    let a = b .before .before .args in
     adding-done (a .l) (runTerms (a .x .now) (a .q .now) (a .d)) 8 (b .loop .out) (b .loop .i) (omega arith) (b .loop .inv)
 
 pub eight-terms-spec : {M : Type 1} → statement M
@@ -72,8 +78,8 @@ eight-terms-spec =
     array-read-out
     mul-out-2
     shared-slice-read-out
-    shared-slice-copy-out-out
-    int-to-float-out
+    shared-slice-copy-out-to-f32
+    to-f32-requires
     mul-out-3
     array-write-out
     add-i

@@ -1,0 +1,140 @@
+// The layers.
+use crate::answers::number_of;
+use integer_layers::Meeting;
+use layouts::Format;
+use layouts::Format32;
+use layouts::FormatK;
+ghost use mathlib.Core.Path.{_≡_};
+ghost use Rattle.shapes.specs.Shapes.{shape};
+ghost use Rattle.layers.specs.Says.{fusedLayerSays, cpuSays};
+ghost use Rattle.integer_layers.specs.Says.{integerLayerSays};
+ghost use Rattle.exports.specs.Answers.{numbered};
+
+#[no_mangle]
+pub extern "C" fn jambharrow_linear_q4_k_fused(
+    x: &[f32],
+    w: &[u8],
+    y: &mut [f32],
+    batch: usize,
+    in_feat: usize,
+    out_feat: usize,
+) -> u32
+    ensures { λ r. ⌜ (r, now (y .exit)) ≡ numbered (fusedLayerSays FormatK.Q4K (shape batch «in_feat» «out_feat») (now (x .entry)) (now (w .entry)) (now (y .entry))) ⌝ }
+{
+    number_of(layers::linear_q4_k_fused(x, w, y, batch, in_feat, out_feat))
+}
+
+#[no_mangle]
+pub extern "C" fn jambharrow_linear_q6_k_fused(
+    x: &[f32],
+    w: &[u8],
+    y: &mut [f32],
+    batch: usize,
+    in_feat: usize,
+    out_feat: usize,
+) -> u32
+    ensures { λ r. ⌜ (r, now (y .exit)) ≡ numbered (fusedLayerSays FormatK.Q6K (shape batch «in_feat» «out_feat») (now (x .entry)) (now (w .entry)) (now (y .entry))) ⌝ }
+{
+    number_of(layers::linear_q6_k_fused(x, w, y, batch, in_feat, out_feat))
+}
+
+#[no_mangle]
+pub extern "C" fn jambharrow_linear_q4_k_integer(
+    x: &[f32],
+    w: &[u8],
+    y: &mut [f32],
+    batch: usize,
+    in_feat: usize,
+    out_feat: usize,
+) -> u32
+    ensures { λ r. ⌜ (r, now (y .exit)) ≡ numbered (integerLayerSays FormatK.Q4K Meeting.Tree (shape batch «in_feat» «out_feat») (now (x .entry)) (now (w .entry)) (now (y .entry))) ⌝ }
+{
+    number_of(integer_layers::linear_q4_k_integer(x, w, y, batch, in_feat, out_feat))
+}
+
+#[no_mangle]
+pub extern "C" fn jambharrow_linear_q6_k_integer(
+    x: &[f32],
+    w: &[u8],
+    y: &mut [f32],
+    batch: usize,
+    in_feat: usize,
+    out_feat: usize,
+) -> u32
+    ensures { λ r. ⌜ (r, now (y .exit)) ≡ numbered (integerLayerSays FormatK.Q6K Meeting.Tree (shape batch «in_feat» «out_feat») (now (x .entry)) (now (w .entry)) (now (y .entry))) ⌝ }
+{
+    number_of(integer_layers::linear_q6_k_integer(x, w, y, batch, in_feat, out_feat))
+}
+
+#[no_mangle]
+pub extern "C" fn jambharrow_linear_q4_k_integer_rs(
+    x: &[f32],
+    w: &[u8],
+    y: &mut [f32],
+    batch: usize,
+    in_feat: usize,
+    out_feat: usize,
+) -> u32
+    ensures { λ r. ⌜ (r, now (y .exit)) ≡ numbered (integerLayerSays FormatK.Q4K Meeting.Running (shape batch «in_feat» «out_feat») (now (x .entry)) (now (w .entry)) (now (y .entry))) ⌝ }
+{
+    number_of(integer_layers::linear_q4_k_integer_rs(x, w, y, batch, in_feat, out_feat))
+}
+
+#[no_mangle]
+pub extern "C" fn jambharrow_linear_q6_k_integer_rs(
+    x: &[f32],
+    w: &[u8],
+    y: &mut [f32],
+    batch: usize,
+    in_feat: usize,
+    out_feat: usize,
+) -> u32
+    ensures { λ r. ⌜ (r, now (y .exit)) ≡ numbered (integerLayerSays FormatK.Q6K Meeting.Running (shape batch «in_feat» «out_feat») (now (x .entry)) (now (w .entry)) (now (y .entry))) ⌝ }
+{
+    number_of(integer_layers::linear_q6_k_integer_rs(x, w, y, batch, in_feat, out_feat))
+}
+
+#[no_mangle]
+pub extern "C" fn jambharrow_linear_q4_k_cpu(
+    x: &[f32],
+    w: &[u8],
+    y: &mut [f32],
+    scratch: &mut [f32],
+    batch: usize,
+    in_feat: usize,
+    out_feat: usize,
+) -> u32
+    ensures { λ r. ⌜ (r, (now (y .exit), now (scratch .exit))) ≡ numbered (cpuSays (Format.OfK FormatK.Q4K) (shape batch «in_feat» «out_feat») (now (x .entry)) (now (w .entry)) (now (y .entry)) (now (scratch .entry))) ⌝ }
+{
+    number_of(layers::linear_q4_k_cpu(x, w, y, scratch, batch, in_feat, out_feat))
+}
+
+#[no_mangle]
+pub extern "C" fn jambharrow_linear_q6_k_cpu(
+    x: &[f32],
+    w: &[u8],
+    y: &mut [f32],
+    scratch: &mut [f32],
+    batch: usize,
+    in_feat: usize,
+    out_feat: usize,
+) -> u32
+    ensures { λ r. ⌜ (r, (now (y .exit), now (scratch .exit))) ≡ numbered (cpuSays (Format.OfK FormatK.Q6K) (shape batch «in_feat» «out_feat») (now (x .entry)) (now (w .entry)) (now (y .entry)) (now (scratch .entry))) ⌝ }
+{
+    number_of(layers::linear_q6_k_cpu(x, w, y, scratch, batch, in_feat, out_feat))
+}
+
+#[no_mangle]
+pub extern "C" fn jambharrow_linear_q4_0_cpu(
+    x: &[f32],
+    w: &[u8],
+    y: &mut [f32],
+    scratch: &mut [f32],
+    batch: usize,
+    in_feat: usize,
+    out_feat: usize,
+) -> u32
+    ensures { λ r. ⌜ (r, (now (y .exit), now (scratch .exit))) ≡ numbered (cpuSays (Format.Of32 Format32.Q40) (shape batch «in_feat» «out_feat») (now (x .entry)) (now (w .entry)) (now (y .entry)) (now (scratch .entry))) ⌝ }
+{
+    number_of(layers::linear_q4_0_cpu(x, w, y, scratch, batch, in_feat, out_feat))
+}

@@ -1,0 +1,140 @@
+//! The layers.
+use crate::calls::Call;
+use crate::layers::{Kind, Layer};
+use oracle::inputs;
+use oracle::ops::quant;
+
+pub const LINEAR_Q4_K_FUSED: Call = Call {
+    name: "linear_q4_k_fused",
+    compare: |comparison| Q4_K_FUSED.compare(comparison),
+    sample: |records| Q4_K_FUSED.sample(records),
+};
+
+pub const LINEAR_Q6_K_FUSED: Call = Call {
+    name: "linear_q6_k_fused",
+    compare: |comparison| Q6_K_FUSED.compare(comparison),
+    sample: |records| Q6_K_FUSED.sample(records),
+};
+
+pub const LINEAR_Q4_K_INTEGER: Call = Call {
+    name: "linear_q4_k_integer",
+    compare: |comparison| Q4_K_INTEGER.compare(comparison),
+    sample: |records| Q4_K_INTEGER.sample(records),
+};
+
+pub const LINEAR_Q6_K_INTEGER: Call = Call {
+    name: "linear_q6_k_integer",
+    compare: |comparison| Q6_K_INTEGER.compare(comparison),
+    sample: |records| Q6_K_INTEGER.sample(records),
+};
+
+pub const LINEAR_Q4_K_INTEGER_RS: Call = Call {
+    name: "linear_q4_k_integer_rs",
+    compare: |comparison| Q4_K_INTEGER_RS.compare(comparison),
+    sample: |records| Q4_K_INTEGER_RS.sample(records),
+};
+
+pub const LINEAR_Q6_K_INTEGER_RS: Call = Call {
+    name: "linear_q6_k_integer_rs",
+    compare: |comparison| Q6_K_INTEGER_RS.compare(comparison),
+    sample: |records| Q6_K_INTEGER_RS.sample(records),
+};
+
+pub const LINEAR_Q4_K_CPU: Call = Call {
+    name: "linear_q4_k_cpu",
+    compare: |comparison| Q4_K_CPU.compare(comparison),
+    sample: |records| Q4_K_CPU.sample(records),
+};
+
+pub const LINEAR_Q6_K_CPU: Call = Call {
+    name: "linear_q6_k_cpu",
+    compare: |comparison| Q6_K_CPU.compare(comparison),
+    sample: |records| Q6_K_CPU.sample(records),
+};
+
+pub const LINEAR_Q4_0_CPU: Call = Call {
+    name: "linear_q4_0_cpu",
+    compare: |comparison| Q4_0_CPU.compare(comparison),
+    sample: |records| Q4_0_CPU.sample(records),
+};
+
+const Q4_K_FUSED: Layer = Layer {
+    layout: inputs::Q4_K,
+    rust: quant::linear_q4_k_fused,
+    kind: Kind::WholeBlocks {
+        ours: jambharrow::linear_q4_k_fused,
+        rust_looks: false,
+    },
+};
+
+const Q6_K_FUSED: Layer = Layer {
+    layout: inputs::Q6_K,
+    rust: quant::linear_q6_k_fused,
+    kind: Kind::WholeBlocks {
+        ours: jambharrow::linear_q6_k_fused,
+        rust_looks: true,
+    },
+};
+
+const Q4_K_INTEGER: Layer = Layer {
+    layout: inputs::Q4_K,
+    rust: quant::linear_q4_k_integer,
+    kind: Kind::WholeBlocks {
+        ours: jambharrow::linear_q4_k_integer,
+        rust_looks: true,
+    },
+};
+
+const Q6_K_INTEGER: Layer = Layer {
+    layout: inputs::Q6_K,
+    rust: quant::linear_q6_k_integer,
+    kind: Kind::WholeBlocks {
+        ours: jambharrow::linear_q6_k_integer,
+        rust_looks: true,
+    },
+};
+
+const Q4_K_INTEGER_RS: Layer = Layer {
+    layout: inputs::Q4_K,
+    rust: quant::linear_q4_k_integer_rs,
+    kind: Kind::WholeBlocks {
+        ours: jambharrow::linear_q4_k_integer_rs,
+        rust_looks: true,
+    },
+};
+
+const Q6_K_INTEGER_RS: Layer = Layer {
+    layout: inputs::Q6_K,
+    rust: quant::linear_q6_k_integer_rs,
+    kind: Kind::WholeBlocks {
+        ours: jambharrow::linear_q6_k_integer_rs,
+        rust_looks: true,
+    },
+};
+
+const Q4_K_CPU: Layer = Layer {
+    layout: inputs::Q4_K,
+    rust: quant::linear_q4_k_cpu,
+    kind: Kind::Cpu {
+        ours: jambharrow::linear_q4_k_cpu,
+        decode: quant::dequantize_q4_k,
+    },
+};
+
+const Q6_K_CPU: Layer = Layer {
+    layout: inputs::Q6_K,
+    rust: quant::linear_q6_k_cpu,
+    kind: Kind::Cpu {
+        ours: jambharrow::linear_q6_k_cpu,
+        decode: quant::dequantize_q6_k,
+    },
+};
+
+const Q4_0_CPU: Layer = Layer {
+    layout: inputs::Q4_0,
+    rust: quant::linear_q4_0_cpu,
+    kind: Kind::Cpu {
+        ours: jambharrow::linear_q4_0_cpu,
+        decode: quant::dequantize_q4_0,
+    },
+};

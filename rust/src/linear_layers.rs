@@ -1,0 +1,452 @@
+//! Layers: every row of readings against every row of packed weights.
+use crate::refusal::{done, Refusal};
+use crate::sys::{self, CpuLayer, Layer};
+
+/// `sizes` are batch, in_feat and out_feat.
+#[inline]
+fn linear(
+    layer: Layer,
+    x: &[f32],
+    w: &[u8],
+    y_out: &mut [f32],
+    sizes: [usize; 3],
+) -> Result<(), Refusal> {
+    let [batch, in_feat, out_feat] = sizes;
+    // SAFETY: each pointer and length is a slice's, and what is written is lent to this call alone.
+    done(unsafe {
+        layer(
+            x.as_ptr(),
+            x.len(),
+            w.as_ptr(),
+            w.len(),
+            y_out.as_mut_ptr(),
+            y_out.len(),
+            batch,
+            in_feat,
+            out_feat,
+        )
+    })
+}
+
+/// Works a layer of `batch` rows of `in_feat` readings and `out_feat` rows of `in_feat` weights in
+/// Q4_K blocks: the output of reading row b and weight row o, at `b * out_feat + o`, is
+/// [`canonical_dot_q4k_fused`](crate::canonical_dot_q4k_fused) of the two. Weights, readings and
+/// places of `y_out` behind those that the sizes need are not looked at, and kept. It refuses, in
+/// this order, as [`Refusal::TooLarge`] a `batch` over [`MOST_BATCH`](crate::MOST_BATCH), an
+/// `in_feat` over [`MOST_IN`](crate::MOST_IN) or an `out_feat` over [`MOST_OUT`](crate::MOST_OUT);
+/// as [`Refusal::NotAMultiple`] an `in_feat` that is not a multiple of 256; and as
+/// [`Refusal::WeightsShort`], [`Refusal::ReadingsShort`] and [`Refusal::RoomShort`] fewer weights,
+/// readings and places of `y_out` than the sizes need, weights also where `batch` is 0.
+///
+/// ```
+/// // One block, whose first 32 weights are 1, and the others 0.
+/// let mut w = [0; 144];
+/// w[..2].copy_from_slice(&[0x00, 0x3C]);
+/// w[4] = 1;
+/// w[16..].fill(0x11);
+/// let mut y = [0.0; 2];
+/// jambharrow::linear_q4_k_fused(&[1.0; 512], &w, &mut y, 2, 256, 1)?;
+/// assert_eq!(y, [32.0, 32.0]);
+/// # Ok::<(), jambharrow::Refusal>(())
+/// ```
+#[inline]
+pub fn linear_q4_k_fused(
+    x: &[f32],
+    w_q4k: &[u8],
+    y_out: &mut [f32],
+    batch: usize,
+    in_feat: usize,
+    out_feat: usize,
+) -> Result<(), Refusal> {
+    let sizes = [batch, in_feat, out_feat];
+    linear(sys::jambharrow_linear_q4_k_fused, x, w_q4k, y_out, sizes)
+}
+
+/// Does with Q6_K blocks what [`linear_q4_k_fused`] does with its own, by
+/// [`q6k_fused_f32_dot`](crate::q6k_fused_f32_dot).
+#[inline]
+pub fn linear_q6_k_fused(
+    x: &[f32],
+    w_q6k: &[u8],
+    y_out: &mut [f32],
+    batch: usize,
+    in_feat: usize,
+    out_feat: usize,
+) -> Result<(), Refusal> {
+    let sizes = [batch, in_feat, out_feat];
+    linear(sys::jambharrow_linear_q6_k_fused, x, w_q6k, y_out, sizes)
+}
+
+/// Works a layer as [`linear_q4_k_fused`] does, and refuses as it does, but in whole numbers: each
+/// row of readings is made activation blocks once, and an output is
+/// [`integer_dot_q4k`](crate::integer_dot_q4k) of its two rows.
+#[inline]
+pub fn linear_q4_k_integer(
+    x: &[f32],
+    w_q4k: &[u8],
+    y_out: &mut [f32],
+    batch: usize,
+    in_feat: usize,
+    out_feat: usize,
+) -> Result<(), Refusal> {
+    let sizes = [batch, in_feat, out_feat];
+    linear(sys::jambharrow_linear_q4_k_integer, x, w_q4k, y_out, sizes)
+}
+
+/// Does with Q6_K blocks what [`linear_q4_k_integer`] does with its own, by
+/// [`dot_q6k_q8_block`](crate::dot_q6k_q8_block) of each block.
+#[inline]
+pub fn linear_q6_k_integer(
+    x: &[f32],
+    w_q6k: &[u8],
+    y_out: &mut [f32],
+    batch: usize,
+    in_feat: usize,
+    out_feat: usize,
+) -> Result<(), Refusal> {
+    let sizes = [batch, in_feat, out_feat];
+    linear(sys::jambharrow_linear_q6_k_integer, x, w_q6k, y_out, sizes)
+}
+
+/// Does what [`linear_q4_k_integer`] does, but the dots of a row's blocks meet in a running sum from
+/// +0.0, and not in the tree.
+#[inline]
+pub fn linear_q4_k_integer_rs(
+    x: &[f32],
+    w_q4k: &[u8],
+    y_out: &mut [f32],
+    batch: usize,
+    in_feat: usize,
+    out_feat: usize,
+) -> Result<(), Refusal> {
+    let sizes = [batch, in_feat, out_feat];
+    linear(
+        sys::jambharrow_linear_q4_k_integer_rs,
+        x,
+        w_q4k,
+        y_out,
+        sizes,
+    )
+}
+
+/// Does with Q6_K blocks what [`linear_q4_k_integer_rs`] does with its own.
+#[inline]
+pub fn linear_q6_k_integer_rs(
+    x: &[f32],
+    w_q6k: &[u8],
+    y_out: &mut [f32],
+    batch: usize,
+    in_feat: usize,
+    out_feat: usize,
+) -> Result<(), Refusal> {
+    let sizes = [batch, in_feat, out_feat];
+    linear(
+        sys::jambharrow_linear_q6_k_integer_rs,
+        x,
+        w_q6k,
+        y_out,
+        sizes,
+    )
+}
+
+/// `sizes` are batch, in_feat and out_feat.
+#[inline]
+fn linear_cpu(
+    layer: CpuLayer,
+    x: &[f32],
+    w: &[u8],
+    y_out: &mut [f32],
+    scratch: &mut [f32],
+    sizes: [usize; 3],
+) -> Result<(), Refusal> {
+    let [batch, in_feat, out_feat] = sizes;
+    // SAFETY: each pointer and length is a slice's, and what is written is lent to this call alone.
+    done(unsafe {
+        layer(
+            x.as_ptr(),
+            x.len(),
+            w.as_ptr(),
+            w.len(),
+            y_out.as_mut_ptr(),
+            y_out.len(),
+            scratch.as_mut_ptr(),
+            scratch.len(),
+            batch,
+            in_feat,
+            out_feat,
+        )
+    })
+}
+
+/// Works a layer as [`linear_q4_k_fused`] does, but decodes each row of weights into `scratch`, for
+/// [`canonical_dot_pub`](crate::canonical_dot_pub) of it and every row of readings. Rows need not be
+/// whole blocks: two rows of 128 share one. Afterwards the first `in_feat` places of `scratch` hold
+/// the last row decoded, or what they held, where `batch` or `out_feat` is 0. It refuses, in this
+/// order, as [`Refusal::TooLarge`] what [`linear_q4_k_fused`] refuses so; as
+/// [`Refusal::ReadingsShort`] any other count of readings than `batch * in_feat`; as
+/// [`Refusal::RoomShort`] a `y_out` of any other length than `batch * out_feat`; as
+/// [`Refusal::NotWholeBlocks`] bytes that are not whole blocks; as [`Refusal::WeightsShort`] blocks
+/// of any other count of weights than `out_feat * in_feat`; and as [`Refusal::RoomShort`] a
+/// `scratch` of fewer than `in_feat` places.
+#[inline]
+pub fn linear_q4_k_cpu(
+    x: &[f32],
+    w_q4k: &[u8],
+    y_out: &mut [f32],
+    scratch: &mut [f32],
+    batch: usize,
+    in_feat: usize,
+    out_feat: usize,
+) -> Result<(), Refusal> {
+    let layer = sys::jambharrow_linear_q4_k_cpu;
+    let sizes = [batch, in_feat, out_feat];
+    linear_cpu(layer, x, w_q4k, y_out, scratch, sizes)
+}
+
+/// Does with Q6_K blocks what [`linear_q4_k_cpu`] does with its own.
+#[inline]
+pub fn linear_q6_k_cpu(
+    x: &[f32],
+    w_q6k: &[u8],
+    y_out: &mut [f32],
+    scratch: &mut [f32],
+    batch: usize,
+    in_feat: usize,
+    out_feat: usize,
+) -> Result<(), Refusal> {
+    let layer = sys::jambharrow_linear_q6_k_cpu;
+    let sizes = [batch, in_feat, out_feat];
+    linear_cpu(layer, x, w_q6k, y_out, scratch, sizes)
+}
+
+/// Does with Q4_0 blocks, of which a row is a whole number, what [`linear_q4_k_cpu`] does with its
+/// own. It refuses, in this order, as [`Refusal::TooLarge`] what [`linear_q4_k_fused`] refuses so; as
+/// [`Refusal::NotAMultiple`] an `in_feat` that is not a multiple of 32; as
+/// [`Refusal::WeightsShort`], [`Refusal::ReadingsShort`] and [`Refusal::RoomShort`] any other count
+/// of bytes, readings and places of `y_out` than the sizes need; and as [`Refusal::RoomShort`] a
+/// `scratch` of fewer than `in_feat` places.
+#[inline]
+pub fn linear_q4_0_cpu(
+    x: &[f32],
+    w_q4: &[u8],
+    y_out: &mut [f32],
+    scratch: &mut [f32],
+    batch: usize,
+    in_feat: usize,
+    out_feat: usize,
+) -> Result<(), Refusal> {
+    let layer = sys::jambharrow_linear_q4_0_cpu;
+    let sizes = [batch, in_feat, out_feat];
+    linear_cpu(layer, x, w_q4, y_out, scratch, sizes)
+}
+
+#[cfg(test)]
+mod tests {
+    use super::*;
+    use crate::{MOST_BATCH, MOST_IN, MOST_OUT};
+
+    /// A Q4_K block whose first 32 weights are as given, up to 15, and the others 0.
+    fn q4_k(weight: u8) -> [u8; 144] {
+        let mut block = [0; 144];
+        block[..2].copy_from_slice(&[0x00, 0x3C]);
+        block[4] = 1;
+        block[16..48].fill(weight);
+        block
+    }
+
+    /// A Q6_K block whose first 16 weights are 32 times the scale given, and the others 0: each
+    /// quant is 0 - 32, and d is -1.
+    fn q6_k(scale: u8) -> [u8; 210] {
+        let mut block = [0; 210];
+        block[192] = scale;
+        block[209] = 0xBC;
+        block
+    }
+
+    /// Two rows of 256 readings: of 1, and of 2.
+    fn two_rows() -> Vec<f32> {
+        [[1.0; 256], [2.0; 256]].concat()
+    }
+
+    #[test]
+    fn outputs_are_row_major_and_surplus_places_are_kept() {
+        let x = two_rows();
+        let w = [q4_k(1), q4_k(2), q4_k(3)].concat();
+        let wanted = [32.0, 64.0, 96.0, 64.0, 128.0, 192.0, 7.0];
+        let mut y = [7.0; 7];
+        assert_eq!(linear_q4_k_fused(&x, &w, &mut y, 2, 256, 3), Ok(()));
+        assert_eq!(y, wanted);
+
+        let w = [q6_k(1), q6_k(2), q6_k(3)].concat();
+        let wanted = wanted.map(|wanted| if wanted == 7.0 { 7.0 } else { 16.0 * wanted });
+        let mut y = [7.0; 7];
+        assert_eq!(linear_q6_k_fused(&x, &w, &mut y, 2, 256, 3), Ok(()));
+        assert_eq!(y, wanted);
+    }
+
+    #[test]
+    fn layers_in_whole_numbers() {
+        // The scale is 1, the quants are the readings, and no float rounds.
+        let x = [[127.0; 256], [-127.0; 256]].concat();
+        let w = [q4_k(1), q4_k(2), q4_k(3)].concat();
+        let wanted = [4064.0, 8128.0, 12192.0, -4064.0, -8128.0, -12192.0, 7.0];
+        let layers: [Plain; 2] = [linear_q4_k_integer, linear_q4_k_integer_rs];
+        for layer in layers {
+            let mut y = [7.0; 7];
+            assert_eq!(layer(&x, &w, &mut y, 2, 256, 3), Ok(()));
+            assert_eq!(y, wanted);
+        }
+        let w = [q6_k(1), q6_k(2), q6_k(3)].concat();
+        let wanted = wanted.map(|wanted| if wanted == 7.0 { 7.0 } else { 16.0 * wanted });
+        let layers: [Plain; 2] = [linear_q6_k_integer, linear_q6_k_integer_rs];
+        for layer in layers {
+            let mut y = [7.0; 7];
+            assert_eq!(layer(&x, &w, &mut y, 2, 256, 3), Ok(()));
+            assert_eq!(y, wanted);
+        }
+    }
+
+    #[test]
+    fn the_tree_keeps_a_minus_nought_and_a_running_sum_does_not() {
+        // d is -1, dmin 1, and the rest 0.
+        let mut w = [0; 144];
+        w[..4].copy_from_slice(&[0x00, 0xBC, 0x00, 0x3C]);
+        let x = [0.0; 256];
+        let mut y = [7.0];
+        assert_eq!(linear_q4_k_integer(&x, &w, &mut y, 1, 256, 1), Ok(()));
+        assert_eq!(y[0].to_bits(), 0x8000_0000);
+        assert_eq!(linear_q4_k_integer_rs(&x, &w, &mut y, 1, 256, 1), Ok(()));
+        assert_eq!(y[0].to_bits(), 0x0000_0000);
+    }
+
+    #[test]
+    fn scratch_holds_the_last_row_decoded() {
+        let x = two_rows();
+        let mut y = [7.0; 4];
+        let mut scratch = [7.0; 257];
+        let w = [q4_k(1), q4_k(2)].concat();
+        let done = linear_q4_k_cpu(&x, &w, &mut y, &mut scratch, 2, 256, 2);
+        assert_eq!(done, Ok(()));
+        assert_eq!(y, [32.0, 64.0, 64.0, 128.0]);
+        assert_eq!(scratch[..32], [2.0; 32]);
+        assert_eq!(scratch[32..256], [0.0; 224]);
+        assert_eq!(scratch[256], 7.0);
+
+        let w = [q6_k(1), q6_k(2)].concat();
+        let done = linear_q6_k_cpu(&x, &w, &mut y, &mut scratch, 2, 256, 2);
+        assert_eq!(done, Ok(()));
+        assert_eq!(y, [512.0, 1024.0, 1024.0, 2048.0]);
+        assert_eq!(scratch[15..17], [64.0, 0.0]);
+    }
+
+    #[test]
+    fn two_rows_of_128_share_a_block() {
+        let mut w = q4_k(3);
+        // Sub-block 4, the first of the second row: scale 2, nibbles 5.
+        w[12] = 2;
+        w[80..112].fill(5);
+        let mut y = [7.0; 2];
+        let mut scratch = [7.0; 128];
+        let done = linear_q4_k_cpu(&[1.0; 128], &w, &mut y, &mut scratch, 1, 128, 2);
+        assert_eq!(done, Ok(()));
+        assert_eq!(y, [96.0, 320.0]);
+        assert_eq!(scratch[31..33], [10.0, 0.0]);
+    }
+
+    #[test]
+    fn rows_of_q4_0() {
+        let mut w = [0x88; 36];
+        w[..3].copy_from_slice(&[0x00, 0x3C, 0x98]);
+        w[18..21].copy_from_slice(&[0x00, 0x40, 0x8A]);
+        let mut y = [7.0; 2];
+        let mut scratch = [7.0; 32];
+        let done = linear_q4_0_cpu(&[3.0; 32], &w, &mut y, &mut scratch, 1, 32, 2);
+        assert_eq!(done, Ok(()));
+        assert_eq!(y, [3.0, 12.0]);
+        assert_eq!(scratch[..2], [4.0, 0.0]);
+    }
+
+    #[test]
+    fn a_layer_without_readings_looks_at_its_weights_and_writes_nothing() {
+        let mut y = [7.0];
+        let fused = |w: &[u8], y: &mut [f32]| linear_q4_k_fused(&[], w, y, 0, 256, 1);
+        assert_eq!(fused(&[0; 143], &mut y), Err(Refusal::WeightsShort));
+        assert_eq!(fused(&[0; 144], &mut y), Ok(()));
+        let mut scratch = [7.0; 256];
+        let w = q4_k(1);
+        let done = linear_q4_k_cpu(&[], &w, &mut [], &mut scratch, 0, 256, 1);
+        assert_eq!(done, Ok(()));
+        assert_eq!(y, [7.0]);
+        assert_eq!(scratch, [7.0; 256]);
+    }
+
+    #[test]
+    fn refusals_come_in_their_order_and_keep_the_output() {
+        let layers: [Plain; 6] = [
+            linear_q4_k_fused,
+            linear_q6_k_fused,
+            linear_q4_k_integer,
+            linear_q6_k_integer,
+            linear_q4_k_integer_rs,
+            linear_q6_k_integer_rs,
+        ];
+        for layer in layers {
+            let mut y = [7.0; 1];
+            let mut ask = |x: &[f32], w: &[u8], batch, in_feat, out_feat| {
+                let said = layer(x, w, &mut y, batch, in_feat, out_feat);
+                assert_eq!(y, [7.0]);
+                said
+            };
+            assert_eq!(ask(&[], &[], MOST_BATCH + 1, 1, 1), Err(Refusal::TooLarge));
+            assert_eq!(ask(&[], &[], 1, MOST_IN + 1, 1), Err(Refusal::TooLarge));
+            assert_eq!(ask(&[], &[], 1, 1, MOST_OUT + 1), Err(Refusal::TooLarge));
+            assert_eq!(ask(&[], &[], 2, 255, 1), Err(Refusal::NotAMultiple));
+            assert_eq!(ask(&[], &[], 2, 256, 1), Err(Refusal::WeightsShort));
+            assert_eq!(ask(&[], &[0; 210], 2, 256, 1), Err(Refusal::ReadingsShort));
+            let x = [0.0; 512];
+            assert_eq!(ask(&x, &[0; 210], 2, 256, 1), Err(Refusal::RoomShort));
+        }
+    }
+
+    /// A layer without scratch.
+    type Plain = fn(&[f32], &[u8], &mut [f32], usize, usize, usize) -> Result<(), Refusal>;
+
+    /// A `_cpu` layer.
+    type Cpu =
+        fn(&[f32], &[u8], &mut [f32], &mut [f32], usize, usize, usize) -> Result<(), Refusal>;
+
+    /// What a layer of one row of 1.0 and one row of zero bytes says, given so many readings, bytes,
+    /// places of output and of scratch; all of its memory is held to be kept.
+    fn refusal(layer: Cpu, in_feat: usize, lengths: [usize; 4]) -> Option<Refusal> {
+        let [readings, bytes, places, scratch] = lengths;
+        let x = vec![1.0; readings];
+        let w = vec![0; bytes];
+        let mut y = vec![7.0; places];
+        let mut room = vec![7.0; scratch];
+        let said = layer(&x, &w, &mut y, &mut room, 1, in_feat, 1);
+        assert_eq!(y, vec![7.0; places]);
+        assert_eq!(room, vec![7.0; scratch]);
+        said.err()
+    }
+
+    #[test]
+    fn refusals_of_cpu_layers_come_in_their_order_and_keep_all_memory() {
+        let layers: [(Cpu, usize); 2] = [(linear_q4_k_cpu, 144), (linear_q6_k_cpu, 210)];
+        for (layer, block) in layers {
+            let of = |in_feat, lengths| refusal(layer, in_feat, lengths);
+            assert_eq!(of(MOST_IN + 1, [0, 0, 0, 0]), Some(Refusal::TooLarge));
+            assert_eq!(of(256, [257, 1, 2, 0]), Some(Refusal::ReadingsShort));
+            assert_eq!(of(256, [256, 1, 2, 0]), Some(Refusal::RoomShort));
+            assert_eq!(of(256, [256, 1, 1, 0]), Some(Refusal::NotWholeBlocks));
+            assert_eq!(of(256, [256, 2 * block, 1, 0]), Some(Refusal::WeightsShort));
+            assert_eq!(of(256, [256, block, 1, 255]), Some(Refusal::RoomShort));
+        }
+        let of = |in_feat, lengths| refusal(linear_q4_0_cpu, in_feat, lengths);
+        assert_eq!(of(MOST_IN + 1, [0, 0, 0, 0]), Some(Refusal::TooLarge));
+        assert_eq!(of(31, [33, 19, 2, 0]), Some(Refusal::NotAMultiple));
+        assert_eq!(of(32, [33, 19, 2, 0]), Some(Refusal::WeightsShort));
+        assert_eq!(of(32, [33, 18, 2, 0]), Some(Refusal::ReadingsShort));
+        assert_eq!(of(32, [32, 18, 2, 0]), Some(Refusal::RoomShort));
+        assert_eq!(of(32, [32, 18, 1, 31]), Some(Refusal::RoomShort));
+    }
+}
