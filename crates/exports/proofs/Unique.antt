@@ -1,4 +1,7 @@
 -- Each call has one answer: at the same arguments its contract holds of no two, and of no two of what it leaves in lent memory. Assumes nothing.
+use Prim.Native.Nat.{ℕ}
+use mathlib.Core.List.{List}
+use lib.Ieee.{Float}
 use denote.Ref.{now}
 use Rattle.refusals.proofs.Once.{OneResult, OneCall, same, both}
 use Rattle.exports.specs.Blocks.{blockIn}
@@ -21,6 +24,10 @@ use Rattle.exports.proofs.fixed_order_sums.jambharrow_canonical_dot_pub
 use Rattle.exports.proofs.fixed_order_sums.jambharrow_canonical_sum_pub.Reads as canonical-sum-pub
 use Rattle.exports.proofs.fused_dots.jambharrow_canonical_dot_q4k_fused.Reads as canonical-dot-q4k-fused
 use Rattle.exports.proofs.fused_dots.jambharrow_q6k_fused_f32_dot.Reads as q6k-fused-f32-dot
+use Rattle.exports.proofs.stepped_layer.jambharrow_open.Reads as opening
+use Rattle.exports.proofs.stepped_layer.jambharrow_piece.Reads as piece
+use Rattle.exports.proofs.stepped_layer.jambharrow_run.Reads as running
+use Rattle.exports.proofs.stepped_layer.jambharrow_close.Reads as closing
 
 pub f16-to-f32-once : OneResult f16-to-f32.Post
 f16-to-f32-once κs a x y s t h k = same h k
@@ -79,3 +86,17 @@ canonical-dot-q4k-fused-once κs a x y s t h k = both h k
 
 pub q6k-fused-f32-dot-once : OneCall q6k-fused-f32-dot.Post (λ κs s. now (s .1 .1 .1 .0))
 q6k-fused-f32-dot-once κs a x y s t h k = both h k
+
+-- the number, and the slots and marks that are left
+pub open-once : OneCall {M = List Float × List ℕ} opening.Post (λ κs s. (now (s .1 .1 .1 .0), now (s .1 .1 .1 .1 .0)))
+open-once κs a x y s t h k = both h k
+
+pub piece-once : OneCall {M = List Float × List ℕ} piece.Post (λ κs s. (now (s .1 .1 .1 .1 .1 .1 .1 .0), now (s .1 .1 .1 .1 .1 .1 .1 .1 .0)))
+piece-once κs a x y s t h k = both h k
+
+-- the number, and the two counts, the slots and the marks that are left
+pub run-once : OneCall {M = (ℕ × ℕ) × (List Float × List ℕ)} running.Post (λ κs s. ((now (s .1 .1 .1 .1 .1 .1 .1 .1 .0), now (s .1 .1 .1 .1 .1 .1 .1 .1 .1 .0)), (now (s .1 .1 .1 .1 .1 .1 .0), now (s .1 .1 .1 .1 .1 .1 .1 .0))))
+run-once κs a x y s t h k = both h k
+
+pub close-once : OneCall closing.Post (λ κs s. now (s .1 .1 .1 .1 .1 .1 .0))
+close-once κs a x y s t h k = both h k

@@ -6,3 +6,4 @@ mod block_decoders;
 mod block_quantizers;
 mod fixed_order_sums;
 mod fused_dots;
+mod stepped_layer;
