@@ -15,6 +15,7 @@ mod fixed_order_sums;
 mod fused_dots;
 mod refusal;
 mod row_dot;
+mod stepped_layer;
 mod sys;
 
 pub use activation_blocks::{
@@ -31,6 +32,7 @@ pub use fixed_order_sums::{
 };
 pub use fused_dots::{canonical_dot_q4k_fused, q6k_fused_f32_dot};
 pub use refusal::Refusal;
+pub use stepped_layer::{Layer, Progress};
 
 /// n and in_feat at most.
 pub const MOST_IN: usize = 131_072;

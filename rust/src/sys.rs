@@ -144,4 +144,57 @@ unsafe extern "C" {
         n: usize,
         value: *mut f32,
     ) -> u32;
+
+    pub fn jambharrow_open(
+        format: u8,
+        in_feat: usize,
+        out_feat: usize,
+        slots: *mut f32,
+        slots_len: usize,
+        marks: *mut u8,
+        marks_len: usize,
+    ) -> u32;
+    pub fn jambharrow_piece(
+        format: u8,
+        in_feat: usize,
+        out_feat: usize,
+        w: *const u8,
+        w_len: usize,
+        x: *const f32,
+        x_len: usize,
+        row: usize,
+        chunk: usize,
+        slots: *mut f32,
+        slots_len: usize,
+        marks: *mut u8,
+        marks_len: usize,
+    ) -> u32;
+    pub fn jambharrow_run(
+        format: u8,
+        in_feat: usize,
+        out_feat: usize,
+        w: *const u8,
+        w_len: usize,
+        x: *const f32,
+        x_len: usize,
+        budget: usize,
+        slots: *mut f32,
+        slots_len: usize,
+        marks: *mut u8,
+        marks_len: usize,
+        done: *mut usize,
+        left: *mut usize,
+    ) -> u32;
+    pub fn jambharrow_close(
+        format: u8,
+        in_feat: usize,
+        out_feat: usize,
+        row: usize,
+        slots: *const f32,
+        slots_len: usize,
+        marks: *const u8,
+        marks_len: usize,
+        y: *mut f32,
+        y_len: usize,
+    ) -> u32;
 }
