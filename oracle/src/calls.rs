@@ -3,6 +3,7 @@ use crate::compare::Comparison;
 use crate::sample::Records;
 use crate::{
     activation_blocks, binary16, block_decoders, block_quantizers, fixed_order_sums, fused_dots,
+    stepped_layer,
 };
 
 pub struct Call {
@@ -37,3 +38,9 @@ pub static CALLS: [Call; 19] = [
     fused_dots::CANONICAL_DOT_Q4K_FUSED,
     fused_dots::Q6K_FUSED_F32_DOT,
 ];
+
+/// A name, and how what it names is compared.
+pub type Named = (&'static str, fn(&mut Comparison));
+
+/// What the Rust does not have: it is compared all the same, and no answer of it is stored.
+pub static ADDED: [Named; 1] = [("stepped", stepped_layer::compare)];
