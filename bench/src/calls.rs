@@ -2,17 +2,18 @@
 use crate::measure::Row;
 use crate::{
     activation_blocks, binary16, block_decoders, block_quantizers, fixed_order_sums, fused_dots,
+    stepped_layer,
 };
 
 pub struct Call {
-    /// The name of the Rust's function.
+    /// The name of the Rust's function, or of what it does not have.
     pub name: &'static str,
     /// The inputs it is measured on, a row of the table for each.
     pub rows: fn() -> Vec<Row>,
 }
 
 /// Every call, in the order of the table.
-pub static CALLS: [Call; 19] = [
+pub static CALLS: [Call; 20] = [
     binary16::F16_TO_F32,
     binary16::F32_TO_F16,
     block_decoders::DEQUANTIZE_Q4_0,
@@ -32,4 +33,5 @@ pub static CALLS: [Call; 19] = [
     activation_blocks::INTEGER_DOT_Q4K,
     fused_dots::CANONICAL_DOT_Q4K_FUSED,
     fused_dots::Q6K_FUSED_F32_DOT,
+    stepped_layer::STEPPED,
 ];
