@@ -28,57 +28,46 @@ pub fn compare(comparison: &mut Comparison) {
         play(&mut Random::new(number), true)
     });
     let what = "each call with each set of reasons to refuse";
-    comparison.cases(what, 4 << Reasons::COUNT, refuse);
+    comparison.cases(what, 4 << Reasons::COUNT, |number| {
+        refuse(&mut Random::new(number), number)
+    });
 }
 
 /// A history of one layer. With `others`, some calls are of another layer, and at times a mark
 /// changes between two calls.
 fn play(random: &mut Random, others: bool) -> Compared {
     let layer = any_layer(random);
-    let memory = Memory::new(random, layer);
-    let (w, x) = (memory.w.memory.clone(), memory.x.memory.clone());
-    let input = Input::new(&w[memory.w.at..], &x[memory.x.at..]);
-    let mut history = History::new(layer, memory, input);
-    let mut values = 0;
-    if random.below(8) > 0 {
-        values += history.call(random, layer, SteppedCall::Open, Reasons(0))?;
-    }
-    for _ in 0..=random.below(CALLS) {
-        let mut layer = layer;
-        if others && random.below(4) == 0 {
-            layer = other_layer(random, layer);
+    History::of(random, layer, |random, history| {
+        let mut values = 0;
+        if random.below(8) > 0 {
+            values += history.call(random, layer, SteppedCall::Open, Reasons(0))?;
         }
-        if others && random.below(16) == 0 {
-            history.change_a_mark(random);
+        for _ in 0..=random.below(CALLS) {
+            let mut layer = layer;
+            if others && random.below(4) == 0 {
+                layer = other_layer(random, layer);
+            }
+            if others && random.below(16) == 0 {
+                history.change_a_mark(random);
+            }
+            let reasons = match random.below(6) {
+                0 => Reasons(random.u64() & random.u64()),
+                _ => Reasons(0),
+            };
+            let call = any_call(random, layer);
+            values += history.call(random, layer, call, reasons)?;
         }
-        let reasons = match random.below(6) {
-            0 => Reasons(random.u64() & random.u64()),
-            _ => Reasons(0),
-        };
-        let call = any_call(random, layer);
-        values += history.call(random, layer, call, reasons)?;
-    }
-    let Memory {
-        w: ours, x: too, ..
-    } = &history.memory;
-    ours.held(&w, &[], || "the weights".into())?;
-    too.held(&x, &[], || "the readings".into())?;
-    Ok(values)
+        Ok(values)
+    })
 }
 
 /// A call that has each reason of a set to refuse, so that the first of them is seen to win.
-fn refuse(number: u64) -> Compared {
-    let mut random = Random::new(number);
-    let random = &mut random;
+fn refuse(random: &mut Random, number: u64) -> Compared {
     let layer = Layer {
         format: [Layer::Q4_K, Layer::Q6_K][random.below(2)],
         in_feat: [256, 8_448][random.below(2)],
         out_feat: 1 + random.below(3),
     };
-    let memory = Memory::new(random, layer);
-    let (w, x) = (memory.w.memory.clone(), memory.x.memory.clone());
-    let input = Input::new(&w[memory.w.at..], &x[memory.x.at..]);
-    let mut history = History::new(layer, memory, input);
     let (row, chunk) = (random.below(layer.out_feat), random.below(chunks(layer)));
     let call = [
         SteppedCall::Open,
@@ -87,10 +76,13 @@ fn refuse(number: u64) -> Compared {
         SteppedCall::Close { row },
     ][number as usize % 4];
     let reasons = Reasons(number / 4);
-    let done = matches!(call, SteppedCall::Close { .. }) != reasons.by_marks();
-    let mark = if done { 1 + random.below(255) as u8 } else { 0 };
-    history.memory.marks.part_mut(needs(layer).marks).fill(mark);
-    history.call(random, layer, call, reasons)
+    History::of(random, layer, |random, history| {
+        let done = matches!(call, SteppedCall::Close { .. }) != reasons.by_marks();
+        let mark = if done { 1 + random.below(255) as u8 } else { 0 };
+        let marks = history.memory.marks.part_mut(needs(layer).marks);
+        marks.fill(mark);
+        history.call(random, layer, call, reasons)
+    })
 }
 
 /// A layer of a history.
@@ -343,15 +335,27 @@ struct History<'a> {
     accepted: Option<usize>,
 }
 
-impl<'a> History<'a> {
-    fn new(layer: Layer, memory: Memory, input: Input<'a>) -> History<'a> {
-        History {
+impl History<'_> {
+    /// Plays a history of a layer, and holds its weights and readings to what they were.
+    fn of(
+        random: &mut Random,
+        layer: Layer,
+        play: impl FnOnce(&mut Random, &mut History) -> Compared,
+    ) -> Compared {
+        let memory = Memory::new(random, layer);
+        let (w, x) = (memory.w.memory.clone(), memory.x.memory.clone());
+        let mut history = History {
             layer,
+            input: Input::new(&w[memory.w.at..], &x[memory.x.at..]),
             memory,
-            input,
             calls: 0,
             accepted: None,
-        }
+        };
+        let values = play(random, &mut history)?;
+        let kept = |part: &str| format!("{part} of {layer:?}");
+        history.memory.w.held(&w, &[], || kept("weights"))?;
+        history.memory.x.held(&x, &[], || kept("readings"))?;
+        Ok(values)
     }
 
     /// A mark changes between two calls.
