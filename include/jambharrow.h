@@ -315,6 +315,73 @@ uint32_t jambharrow_linear_q4_0_cpu(const float *x, size_t x_len, const uint8_t 
                                     float *y, size_t y_len, float *scratch, size_t scratch_len,
                                     size_t batch, size_t in_feat, size_t out_feat);
 
+/* The stepped layer: a layer worked one piece of one row at a time, so that the work may stop after
+ * any call and go on at a later one.
+ *
+ * A layer is its weights' format, in_feat readings and out_feat rows of packed weights, one output
+ * to each. A piece is one chunk of one row: a row has a chunk for each 8,192 of its places, the
+ * last of fewer where in_feat ends inside it, and none where in_feat is 0. A piece has a slot,
+ * where its sum waits, and a mark, which is nonzero once it is done; slots and marks go row by row,
+ * and a row's by rising chunks. They are all that a call leaves behind for the next: a caller keeps
+ * them, and gives each call the same layer, weights and readings.
+ *
+ * After an open, in whatever order pieces are worked: a row can be closed once all its pieces are
+ * done, and its output then has the bits of jambharrow_canonical_dot_q4k_fused or
+ * jambharrow_q6k_fused_f32_dot on that row.
+ *
+ * Each refuses, in this order, with
+ *   JAMBHARROW_UNKNOWN          a format that is not of enum jambharrow_format;
+ *   JAMBHARROW_TOO_LARGE        in_feat over JAMBHARROW_MOST_IN, or out_feat over
+ *                               JAMBHARROW_MOST_OUT;
+ *   JAMBHARROW_NOT_A_MULTIPLE   an in_feat that is not a multiple of 256;
+ * then, of the memory that it is given, with
+ *   JAMBHARROW_WEIGHTS_SHORT    fewer weights than the rows of the layer have;
+ *   JAMBHARROW_READINGS_SHORT   fewer than in_feat readings;
+ *   JAMBHARROW_ROOM_SHORT       fewer slots or marks than the layer has pieces, or fewer than
+ *                               out_feat places in y;
+ * then as the words beside it say. What stands behind the layer's own weights, readings, slots,
+ * marks and outputs is not looked at, and is kept. */
+
+/* The formats of a stepped layer's weights. */
+enum jambharrow_format {
+    JAMBHARROW_Q4_K = 4,
+    JAMBHARROW_Q6_K = 6
+};
+
+/* Begins the work: the mark of every piece becomes 0, and its slot +0.0. */
+uint32_t jambharrow_open(uint8_t format, size_t in_feat, size_t out_feat,
+                         float *slots, size_t slots_len, uint8_t *marks, size_t marks_len);
+
+/* Works one piece: its slot becomes the sum of its chunk of the row, and its mark 1. At the end it
+ * refuses, in this order, with
+ *   JAMBHARROW_OUTSIDE        a row or a chunk that the layer does not have;
+ *   JAMBHARROW_ALREADY_DONE   a piece whose mark is not 0.
+ * It needs at most 4,096 bytes of stack. */
+uint32_t jambharrow_piece(uint8_t format, size_t in_feat, size_t out_feat,
+                          const uint8_t *w, size_t w_len, const float *x, size_t x_len,
+                          size_t row, size_t chunk,
+                          float *slots, size_t slots_len, uint8_t *marks, size_t marks_len);
+
+/* Works the next open pieces in row order, chunks rising, at most `budget`. `done` is how many it
+ * worked, the smaller of `budget` and the pieces that were open, and `left` how many stay open.
+ * Both are written only where JAMBHARROW_DONE is returned. It needs at most 4,096 bytes of
+ * stack. */
+uint32_t jambharrow_run(uint8_t format, size_t in_feat, size_t out_feat,
+                        const uint8_t *w, size_t w_len, const float *x, size_t x_len,
+                        size_t budget,
+                        float *slots, size_t slots_len, uint8_t *marks, size_t marks_len,
+                        size_t *done, size_t *left);
+
+/* Writes the output of a row at its place in y: the row's slots, met in the tree, +0.0 where
+ * in_feat is 0. Slots and marks stay, and a row may be closed again. At the end it refuses, in this
+ * order, with
+ *   JAMBHARROW_OUTSIDE      a row that the layer does not have;
+ *   JAMBHARROW_PIECE_OPEN   a row of which a piece is open. */
+uint32_t jambharrow_close(uint8_t format, size_t in_feat, size_t out_feat, size_t row,
+                          const float *slots, size_t slots_len,
+                          const uint8_t *marks, size_t marks_len,
+                          float *y, size_t y_len);
+
 #ifdef __cplusplus
 }
 #endif

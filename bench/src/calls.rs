@@ -3,17 +3,18 @@ use crate::measure::Row;
 use crate::{
     activation_blocks, binary16, block_decoders, block_quantizers, fixed_order_sums, fused_dots,
     linear_layers,
+    stepped_layer,
 };
 
 pub struct Call {
-    /// The name of the Rust's function.
+    /// The name of the Rust's function, or of what it does not have.
     pub name: &'static str,
     /// The inputs it is measured on, a row of the table for each.
     pub rows: fn() -> Vec<Row>,
 }
 
 /// Every call, in the order of the table.
-pub static CALLS: [Call; 28] = [
+pub static CALLS: [Call; 29] = [
     binary16::F16_TO_F32,
     binary16::F32_TO_F16,
     block_decoders::DEQUANTIZE_Q4_0,
@@ -42,4 +43,5 @@ pub static CALLS: [Call; 28] = [
     linear_layers::LINEAR_Q4_K_CPU,
     linear_layers::LINEAR_Q6_K_CPU,
     linear_layers::LINEAR_Q4_0_CPU,
+    stepped_layer::STEPPED,
 ];

@@ -4,6 +4,7 @@ use crate::sample::Records;
 use crate::{
     activation_blocks, binary16, block_decoders, block_quantizers, fixed_order_sums, fused_dots,
     linear_layers,
+    stepped_layer,
 };
 
 pub struct Call {
@@ -47,3 +48,9 @@ pub static CALLS: [Call; 28] = [
     linear_layers::LINEAR_Q6_K_CPU,
     linear_layers::LINEAR_Q4_0_CPU,
 ];
+
+/// A name, and how what it names is compared.
+pub type Named = (&'static str, fn(&mut Comparison));
+
+/// What the Rust does not have: it is compared all the same, and no answer of it is stored.
+pub static ADDED: [Named; 1] = [("stepped", stepped_layer::compare)];

@@ -13,15 +13,17 @@ mod layers;
 mod linear_layers;
 mod row_dots;
 mod sample;
+mod stepped_layer;
+mod stepped_model;
 
-use calls::{Call, CALLS};
+use calls::{Named, ADDED, CALLS};
 use compare::Comparison;
 use std::env;
 use std::process::ExitCode;
 
 const USAGE: &str = "\
-oracle compare [CALL..]   compares ours with the Rust, on the calls named or on all;
-                          status 1 where an answer differs
+oracle compare [CALL..]   compares ours with the Rust, on the calls named or on all; `stepped`
+                          names those of the stepped layer; status 1 where an answer differs
 oracle sample             writes the stored sample that the program `replay` replays";
 
 fn main() -> ExitCode {
@@ -49,23 +51,25 @@ fn misused(why: &str) -> ExitCode {
 }
 
 /// The calls of the names given, all where none is; or the name that no call has.
-fn chosen<'a>(names: &[&'a str]) -> Result<Vec<&'static Call>, &'a str> {
+fn chosen<'a>(names: &[&'a str]) -> Result<Vec<Named>, &'a str> {
+    let calls = CALLS.iter().map(|call| (call.name, call.compare));
+    let all: Vec<Named> = calls.chain(ADDED).collect();
     if names.is_empty() {
-        return Ok(CALLS.iter().collect());
+        return Ok(all);
     }
     names
         .iter()
-        .map(|&name| CALLS.iter().find(|call| call.name == name).ok_or(name))
+        .map(|&name| all.iter().find(|call| call.0 == name).copied().ok_or(name))
         .collect()
 }
 
-fn compare_all(calls: &[&Call]) -> ExitCode {
+fn compare_all(calls: &[Named]) -> ExitCode {
     let mut cases = 0;
     let mut values = 0;
     let mut differ = 0;
-    for call in calls {
-        let mut comparison = Comparison::of(call.name);
-        (call.compare)(&mut comparison);
+    for &(name, compare) in calls {
+        let mut comparison = Comparison::of(name);
+        compare(&mut comparison);
         cases += comparison.cases;
         values += comparison.values;
         differ += comparison.differ;

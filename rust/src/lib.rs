@@ -17,6 +17,7 @@ mod fused_dots;
 mod linear_layers;
 mod refusal;
 mod row_dot;
+mod stepped_layer;
 mod sys;
 
 pub use activation_blocks::{
@@ -38,6 +39,7 @@ pub use linear_layers::{
     linear_q6_k_integer_rs,
 };
 pub use refusal::Refusal;
+pub use stepped_layer::{Layer, Progress};
 
 /// n and in_feat at most.
 pub const MOST_IN: usize = 131_072;

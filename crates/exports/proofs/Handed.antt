@@ -1,5 +1,5 @@
 -- What C is handed of a call that fills lent memory or makes a block, from what the call says. Assumes nothing.
-use mathlib.Core.Path.{_≡_, ap}
+use mathlib.Core.Path.{_≡_, ap, _∙_}
 use Prim.Native.Nat.{ℕ}
 use Rattle.refusals.specs.Said.{Said}
 use Rattle.refusals.proofs.Laws.{carried-done, carried-refused}
@@ -7,6 +7,8 @@ use Rattle.activations.specs.declared.block.Q8Block.{Q8Block}
 use Rattle.activations.specs.declared.block.Quantized.{Quantized}
 use Rattle.exports.specs.Answers.{numberOf, numbered}
 use Rattle.exports.specs.Blocks.{blockLaidOut}
+use Rattle.stepped.specs.Says.{RunSaid}
+use Rattle.exports.specs.Stepped.{countsLaidOut, runLaidOut}
 
 pub handed : {A : Type 0} (r : ℕ) (said : Said) (left : A) (says : Said × A) → r ≡ numberOf said → (said, left) ≡ says → (r, left) ≡ numbered says
 unfolding numbered
@@ -22,3 +24,8 @@ module _ (made says : Quantized) (old : Q8Block) (e : made ≡ says) where
   pub block-kept : (made .no ≡ 0 → ⊥) → (made .no, old) ≡ blockLaidOut says old
   unfolding blockLaidOut numbered numberOf
   block-kept z = rw (← e, carried-refused (made .no) (made .block) old z)
+
+-- of run: its number and its counts, beside what lent memory holds
+pub ran-handed : {A : Type 0} (r : ℕ) (counts old : ℕ × ℕ) (said : RunSaid) (left : A) (says : RunSaid × A) → (r, counts) ≡ countsLaidOut said old → (said, left) ≡ says → (r, (counts, left)) ≡ runLaidOut says old
+unfolding runLaidOut
+ran-handed r counts old said left says number e = ap (λ (p : ℕ × (ℕ × ℕ)). (p .0, (p .1, left))) number ∙ ap (λ p. runLaidOut p old) e

@@ -1,4 +1,5 @@
 -- Each call has one answer: at the same arguments its contract holds of no two, and of no two of what it leaves in lent memory. Assumes nothing.
+use Prim.Native.Nat.{ℕ}
 use mathlib.Core.List.{List}
 use lib.Ieee.{Float}
 use denote.Ref.{now}
@@ -32,6 +33,10 @@ use Rattle.exports.proofs.linear_layers.jambharrow_linear_q6_k_integer_
 use Rattle.exports.proofs.linear_layers.jambharrow_linear_q4_k_cpu.Reads as linear-q4-k-cpu
 use Rattle.exports.proofs.linear_layers.jambharrow_linear_q6_k_cpu.Reads as linear-q6-k-cpu
 use Rattle.exports.proofs.linear_layers.jambharrow_linear_q4_0_cpu.Reads as linear-q4-0-cpu
+use Rattle.exports.proofs.stepped_layer.jambharrow_open.Reads as opening
+use Rattle.exports.proofs.stepped_layer.jambharrow_piece.Reads as piece
+use Rattle.exports.proofs.stepped_layer.jambharrow_run.Reads as running
+use Rattle.exports.proofs.stepped_layer.jambharrow_close.Reads as closing
 
 pub f16-to-f32-once : OneResult f16-to-f32.Post
 f16-to-f32-once κs a x y s t h k = same h k
@@ -118,3 +123,17 @@ linear-q6-k-cpu-once κs a x y s t h k = both h k
 
 pub linear-q4-0-cpu-once : OneCall {M = List Float × List Float} linear-q4-0-cpu.Post (λ κs s. (now (s .1 .1 .0), now (s .1 .1 .1 .0)))
 linear-q4-0-cpu-once κs a x y s t h k = both h k
+
+-- the number, and the slots and marks that are left
+pub open-once : OneCall {M = List Float × List ℕ} opening.Post (λ κs s. (now (s .1 .1 .1 .0), now (s .1 .1 .1 .1 .0)))
+open-once κs a x y s t h k = both h k
+
+pub piece-once : OneCall {M = List Float × List ℕ} piece.Post (λ κs s. (now (s .1 .1 .1 .1 .1 .1 .1 .0), now (s .1 .1 .1 .1 .1 .1 .1 .1 .0)))
+piece-once κs a x y s t h k = both h k
+
+-- the number, and the two counts, the slots and the marks that are left
+pub run-once : OneCall {M = (ℕ × ℕ) × (List Float × List ℕ)} running.Post (λ κs s. ((now (s .1 .1 .1 .1 .1 .1 .1 .1 .0), now (s .1 .1 .1 .1 .1 .1 .1 .1 .1 .0)), (now (s .1 .1 .1 .1 .1 .1 .0), now (s .1 .1 .1 .1 .1 .1 .1 .0))))
+run-once κs a x y s t h k = both h k
+
+pub close-once : OneCall closing.Post (λ κs s. now (s .1 .1 .1 .1 .1 .1 .0))
+close-once κs a x y s t h k = both h k

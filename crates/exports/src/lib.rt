@@ -7,3 +7,4 @@ mod block_quantizers;
 mod fixed_order_sums;
 mod fused_dots;
 mod linear_layers;
+mod stepped_layer;

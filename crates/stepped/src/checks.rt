@@ -5,6 +5,8 @@ use crate::shape::pieces_of;
 use crate::shape::place_of;
 use crate::shape::weight_need;
 ghost use mathlib.Core.Path.{_≡_};
+ghost use Prim.Native.Nat.{_≤_};
+ghost use lib.ListN.{length};
 ghost use Rattle.refusals.specs.Refusals.{none};
 ghost use Rattle.stepped.specs.Layer.{openCount};
 ghost use Rattle.stepped.specs.Refusals.{shapeNo, roomNo, openNo, workNo, pieceNo, closeNo};
@@ -100,11 +102,12 @@ pub(crate) fn piece_no(
     0
 }
 
-// How many of these marks are open.
+// How many of these marks are open, at most those of a whole layer: 16 chunks of 65,536 rows. The count is of 32 bits, of which a vector holds twice as many as of 64.
 pub(crate) fn count_open(marks: &[u8]) -> usize
+    requires { ⌜ length (now marks) ≤ 1048576 ⌝ }
     ensures { λ r. ⌜ r ≡ openCount (now (marks .entry)) ⌝ }
 {
-    let mut n: usize = 0;
+    let mut n: u32 = 0;
     let mut i: usize = 0;
     while i < marks.len() {
         if marks[i] == 0 {
@@ -112,7 +115,7 @@ pub(crate) fn count_open(marks: &[u8]) -> usize
         }
         i += 1;
     }
-    n
+    n as usize
 }
 
 // What close refuses.

@@ -65,7 +65,7 @@ part-count-open-end : tie.Need-part-count-open-end
 part-count-open-end c = omega (arith, row-in c)
 
 count-open-requires : tie.Need-count-open-requires
-count-open-requires c κs = search needs
+count-open-requires c κs = omega (arith, row-in (c .before))
 
 counted : (c : tie.After-count-open) → let a = start (c .before .before) .args in c .count-open .result ≡ openInRow (a .l) (now (a .marks)) (a .row)
 unfolding openInRow

@@ -45,6 +45,9 @@ loop-again c =
     (λ w. let e = simp (ne-eqb _ _ (w .0 .left)) at (open-more m i h) in (omega arith, omega arith, omega arith))
     (c .if1 .came)
 
+cast-result : tie.Need-cast-result Inv-loop μ-loop
+cast-result c = omega arith
+
 returns : tie.Need-returns Inv-loop μ-loop
 returns c = c .before .loop .inv .2 ∙ ap openCount (take-all _ _ (c .loop-test .left))
 
@@ -60,4 +63,5 @@ count-open-spec =
     add-i
     loop-less
     loop-again
+    cast-result
     returns)

@@ -9,7 +9,7 @@ use denote.Ref.{now}
 use Rattle.stepped.specs.Layer.{openCount, openOf}
 use Rattle.stepped.specs.Refusals.{workNo}
 use Rattle.stepped.specs.Says.{runSays}
-use Rattle.stepped.proofs.Shapes.{workable}
+use Rattle.stepped.proofs.Shapes.{workable, few-pieces}
 use Rattle.stepped.proofs.Answers.{ran-refused}
 use Rattle.stepped.proofs.Counts.{run-done}
 use Rattle.stepped.proofs.running.run.Statement.{statement}
@@ -41,7 +41,10 @@ slice-aggregate-count-open : tie.Need-slice-aggregate-count-open
 slice-aggregate-count-open c = sym (length-take-le _ _ (slice-reshare-prefix-count-open (c .before)))
 
 count-open-requires : tie.Need-count-open-requires
-count-open-requires c κs = search needs
+count-open-requires c κs =
+    let k = c .before in
+    let few = few-pieces _ (workable _ _ _ _ _ (able (k .before .before .before .before .before .before .before .before)) .ready .shape) in
+    rw (length-take-le _ _ (slice-reshare-prefix-count-open k)) (omega (arith, k .pieces-of .ensures, few))
 
 same-length : tie.Need-same-length
 same-length c = search needs

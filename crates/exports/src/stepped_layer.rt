@@ -1,0 +1,108 @@
+// The stepped layer.
+use crate::answers::number_of;
+use stepped::Layer;
+use stepped::Progress;
+ghost use mathlib.Core.Path.{_≡_};
+ghost use Rattle.stepped.specs.Says.{progressSays, openSays, pieceSays, runSays, closeSays};
+ghost use Rattle.exports.specs.Answers.{numbered};
+ghost use Rattle.exports.specs.Stepped.{layerOf, countsLaidOut, runLaidOut};
+
+// The number of run, whose two counts are stored where it has them.
+fn lay_out_counts(progress: Progress, done: &mut usize, left: &mut usize) -> u32
+    ensures { λ r. ⌜ (r, (now (done .exit), now (left .exit))) ≡ countsLaidOut (progressSays progress) (now (done .entry), now (left .entry)) ⌝ }
+{
+    match progress {
+        Progress::Ran {
+            done: worked,
+            left: open,
+        } => {
+            *done = worked;
+            *left = open;
+            0
+        }
+        Progress::Refused(number) => number,
+    }
+}
+
+#[no_mangle]
+pub extern "C" fn jambharrow_open(
+    format: u8,
+    in_feat: usize,
+    out_feat: usize,
+    slots: &mut [f32],
+    marks: &mut [u8],
+) -> u32
+    ensures { λ r. ⌜ (r, (now (slots .exit), now (marks .exit))) ≡ numbered (openSays (layerOf format «in_feat» «out_feat») (now (slots .entry)) (now (marks .entry))) ⌝ }
+{
+    let layer = Layer {
+        format,
+        in_feat,
+        out_feat,
+    };
+    number_of(stepped::open(layer, slots, marks))
+}
+
+#[no_mangle]
+pub extern "C" fn jambharrow_piece(
+    format: u8,
+    in_feat: usize,
+    out_feat: usize,
+    w: &[u8],
+    x: &[f32],
+    row: usize,
+    chunk: usize,
+    slots: &mut [f32],
+    marks: &mut [u8],
+) -> u32
+    ensures { λ r. ⌜ (r, (now (slots .exit), now (marks .exit))) ≡ numbered (pieceSays (layerOf format «in_feat» «out_feat») (now (w .entry)) (now (x .entry)) row chunk (now (slots .entry)) (now (marks .entry))) ⌝ }
+{
+    let layer = Layer {
+        format,
+        in_feat,
+        out_feat,
+    };
+    number_of(stepped::piece(layer, w, x, row, chunk, slots, marks))
+}
+
+#[no_mangle]
+pub extern "C" fn jambharrow_run(
+    format: u8,
+    in_feat: usize,
+    out_feat: usize,
+    w: &[u8],
+    x: &[f32],
+    budget: usize,
+    slots: &mut [f32],
+    marks: &mut [u8],
+    done: &mut usize,
+    left: &mut usize,
+) -> u32
+    ensures { λ r. ⌜ (r, ((now (done .exit), now (left .exit)), (now (slots .exit), now (marks .exit)))) ≡ runLaidOut (runSays (layerOf format «in_feat» «out_feat») (now (w .entry)) (now (x .entry)) budget (now (slots .entry)) (now (marks .entry))) (now (done .entry), now (left .entry)) ⌝ }
+{
+    let layer = Layer {
+        format,
+        in_feat,
+        out_feat,
+    };
+    lay_out_counts(stepped::run(layer, w, x, budget, slots, marks), done, left)
+}
+
+#[no_mangle]
+pub extern "C" fn jambharrow_close(
+    format: u8,
+    in_feat: usize,
+    out_feat: usize,
+    row: usize,
+    slots: &[f32],
+    marks: &[u8],
+    y: &mut [f32],
+) -> u32
+    ensures { λ r. ⌜ (r, now (y .exit)) ≡ numbered (closeSays (layerOf format «in_feat» «out_feat») row (now (slots .entry)) (now (marks .entry)) (now (y .entry))) ⌝ }
+{
+    let layer = Layer {
+        format,
+        in_feat,
+        out_feat,
+    };
+    number_of(stepped::close(layer, row, slots, marks, y))
+}

@@ -1,0 +1,365 @@
+//! The stepped layer: a layer worked one piece of one row at a time, in any order and across any
+//! number of wake slots.
+use crate::refusal::{done, Refusal};
+use crate::sys;
+
+/// A layer that is worked by pieces. A piece is one chunk, of at most 8,192 places, of one row; it
+/// has a slot, where its sum waits, and a mark, which is nonzero once it is done. Slots and marks go
+/// row by row, and are all that the work leaves behind: whoever keeps them can stop after any call
+/// and go on later. A closed row has the bits of [`canonical_dot_q4k_fused`] or
+/// [`q6k_fused_f32_dot`], whatever the order of its pieces.
+///
+/// A call refuses, in this order, as [`Refusal::Unknown`] an unknown format, as
+/// [`Refusal::TooLarge`] an `in_feat` over [`MOST_IN`](crate::MOST_IN) or an `out_feat` over
+/// [`MOST_OUT`](crate::MOST_OUT), and as [`Refusal::NotAMultiple`] an `in_feat` that is not a
+/// multiple of 256; then what is too short of the memory that it uses, as
+/// [`Refusal::WeightsShort`], [`Refusal::ReadingsShort`] or [`Refusal::RoomShort`]; then what the
+/// words beside it say. Weights, readings, slots, marks and outputs are needed for the whole layer;
+/// surplus ones are kept, and so is everything where a call refuses.
+///
+/// ```
+/// use jambharrow::{Layer, Progress};
+///
+/// let layer = Layer { format: Layer::Q4_K, in_feat: 16_384, out_feat: 1 };
+/// let (w, x) = ([0; 64 * 144], [1.0; 16_384]);
+/// let (mut slots, mut marks, mut y) = ([0.0; 2], [0; 2], [7.0]);
+/// layer.open(&mut slots, &mut marks)?;
+/// let progress = layer.run(&w, &x, 1, &mut slots, &mut marks)?;
+/// assert_eq!(progress, Progress { done: 1, left: 1 });
+/// layer.piece(&w, &x, 0, 1, &mut slots, &mut marks)?;
+/// layer.close(0, &slots, &marks, &mut y)?;
+/// assert_eq!(y, [0.0]);
+/// # Ok::<(), jambharrow::Refusal>(())
+/// ```
+///
+/// [`canonical_dot_q4k_fused`]: crate::canonical_dot_q4k_fused
+/// [`q6k_fused_f32_dot`]: crate::q6k_fused_f32_dot
+#[derive(Debug, Clone, Copy, PartialEq, Eq, Hash)]
+pub struct Layer {
+    /// The format of the weights: [`Layer::Q4_K`] or [`Layer::Q6_K`].
+    pub format: u8,
+    /// How many readings go in.
+    pub in_feat: usize,
+    /// How many outputs come out: the rows.
+    pub out_feat: usize,
+}
+
+/// What [`Layer::run`] did.
+#[derive(Debug, Clone, Copy, PartialEq, Eq, Hash)]
+pub struct Progress {
+    /// How many pieces it did: the smaller of its budget and the pieces that were open.
+    pub done: usize,
+    /// How many pieces stay open.
+    pub left: usize,
+}
+
+impl Layer {
+    /// The format byte of Q4_K.
+    pub const Q4_K: u8 = 4;
+    /// The format byte of Q6_K.
+    pub const Q6_K: u8 = 6;
+
+    /// Begins the work: the mark of every piece becomes 0, and its slot +0.0.
+    #[inline]
+    pub fn open(self, slots: &mut [f32], marks: &mut [u8]) -> Result<(), Refusal> {
+        // SAFETY: each pointer and length is a slice's, and what is written is lent to this call
+        // alone.
+        done(unsafe {
+            sys::jambharrow_open(
+                self.format,
+                self.in_feat,
+                self.out_feat,
+                slots.as_mut_ptr(),
+                slots.len(),
+                marks.as_mut_ptr(),
+                marks.len(),
+            )
+        })
+    }
+
+    /// Works one piece: its slot becomes the sum of its chunk of the row, and its mark 1. At the end
+    /// it refuses as [`Refusal::Outside`] a row or chunk that the layer does not have, and as
+    /// [`Refusal::AlreadyDone`] a piece whose mark is not 0.
+    #[inline]
+    pub fn piece(
+        self,
+        w: &[u8],
+        x: &[f32],
+        row: usize,
+        chunk: usize,
+        slots: &mut [f32],
+        marks: &mut [u8],
+    ) -> Result<(), Refusal> {
+        // SAFETY: each pointer and length is a slice's, and what is written is lent to this call
+        // alone.
+        done(unsafe {
+            sys::jambharrow_piece(
+                self.format,
+                self.in_feat,
+                self.out_feat,
+                w.as_ptr(),
+                w.len(),
+                x.as_ptr(),
+                x.len(),
+                row,
+                chunk,
+                slots.as_mut_ptr(),
+                slots.len(),
+                marks.as_mut_ptr(),
+                marks.len(),
+            )
+        })
+    }
+
+    /// Works the next open pieces in row order, chunks rising, at most `budget`.
+    #[inline]
+    pub fn run(
+        self,
+        w: &[u8],
+        x: &[f32],
+        budget: usize,
+        slots: &mut [f32],
+        marks: &mut [u8],
+    ) -> Result<Progress, Refusal> {
+        let mut progress = Progress { done: 0, left: 0 };
+        // SAFETY: each pointer and length is a slice's, and what is written, the two counts too, is
+        // lent to this call alone.
+        done(unsafe {
+            sys::jambharrow_run(
+                self.format,
+                self.in_feat,
+                self.out_feat,
+                w.as_ptr(),
+                w.len(),
+                x.as_ptr(),
+                x.len(),
+                budget,
+                slots.as_mut_ptr(),
+                slots.len(),
+                marks.as_mut_ptr(),
+                marks.len(),
+                &mut progress.done,
+                &mut progress.left,
+            )
+        })?;
+        Ok(progress)
+    }
+
+    /// Writes the output of a row that is done, at its place in `y`: its slots, met in the tree of
+    /// [`canonical_combine`](crate::canonical_combine). Slots and marks stay, and a row may be closed
+    /// again. At the end it refuses as [`Refusal::Outside`] a row that the layer does not have, and
+    /// as [`Refusal::PieceOpen`] a row of which a piece is open.
+    #[inline]
+    pub fn close(
+        self,
+        row: usize,
+        slots: &[f32],
+        marks: &[u8],
+        y: &mut [f32],
+    ) -> Result<(), Refusal> {
+        // SAFETY: each pointer and length is a slice's, and what is written is lent to this call
+        // alone.
+        done(unsafe {
+            sys::jambharrow_close(
+                self.format,
+                self.in_feat,
+                self.out_feat,
+                row,
+                slots.as_ptr(),
+                slots.len(),
+                marks.as_ptr(),
+                marks.len(),
+                y.as_mut_ptr(),
+                y.len(),
+            )
+        })
+    }
+}
+
+#[cfg(test)]
+mod tests {
+    use super::*;
+    use crate::{canonical_dot_q4k_fused, q6k_fused_f32_dot, MOST_IN, MOST_OUT};
+
+    /// Three rows of two chunks, the second of one block.
+    const LAYER: Layer = Layer {
+        format: Layer::Q4_K,
+        in_feat: 8_448,
+        out_feat: 3,
+    };
+    const PIECES: usize = 6;
+    const ROW: usize = 33 * 144;
+
+    /// Weights of no pattern, whose scales d and dmin are small halves.
+    fn weights(block: usize, scales: &[usize]) -> Vec<u8> {
+        let mut w: Vec<u8> = (0..3 * 33 * block as u32)
+            .map(|place| (place.wrapping_mul(0x9E37_79B9) >> 24) as u8)
+            .collect();
+        for block in w.chunks_exact_mut(block) {
+            for &scale in scales {
+                block[scale + 1] = 0x20;
+            }
+        }
+        w
+    }
+
+    fn readings() -> Vec<f32> {
+        (0..8_448u32)
+            .map(|place| place.wrapping_mul(0x9E37_79B9) as i32 as f32 / 2e8)
+            .collect()
+    }
+
+    /// What a logger keeps while it sleeps.
+    struct Kept {
+        slots: Vec<[u8; 4]>,
+        marks: Vec<u8>,
+    }
+
+    impl Kept {
+        /// What is kept before an open: nothing of use.
+        fn new() -> Kept {
+            Kept {
+                slots: vec![[0xEE; 4]; PIECES],
+                marks: vec![0xEE; PIECES],
+            }
+        }
+
+        /// Wakes up, does a part of the work, and sleeps again.
+        fn wake<T>(&mut self, work: impl FnOnce(&mut [f32], &mut [u8]) -> T) -> T {
+            let slots = self.slots.iter().map(|&bytes| f32::from_le_bytes(bytes));
+            let mut slots: Vec<f32> = slots.collect();
+            let did = work(&mut slots, &mut self.marks);
+            self.slots = slots.into_iter().map(f32::to_le_bytes).collect();
+            did
+        }
+    }
+
+    #[test]
+    fn a_layer_across_wake_slots() {
+        let (w, x) = (weights(144, &[0, 2]), readings());
+        let mut kept = Kept::new();
+        assert_eq!(kept.wake(|slots, marks| LAYER.open(slots, marks)), Ok(()));
+        for (done, left) in [(2, 4), (2, 2), (2, 0), (0, 0)] {
+            let run = kept.wake(|slots, marks| LAYER.run(&w, &x, 2, slots, marks));
+            assert_eq!(run, Ok(Progress { done, left }));
+        }
+        let mut y = [7.0; 4];
+        for row in [2, 0, 1, 0] {
+            let close = kept.wake(|slots, marks| LAYER.close(row, slots, marks, &mut y));
+            assert_eq!(close, Ok(()));
+            let one_go = canonical_dot_q4k_fused(&x, &w[row * ROW..][..ROW], 8_448);
+            assert_eq!(Ok(y[row].to_bits()), one_go.map(f32::to_bits));
+            assert!(y[row].is_normal());
+        }
+        assert_eq!(y[3], 7.0);
+    }
+
+    #[test]
+    fn pieces_in_any_order() {
+        let layer = Layer {
+            format: Layer::Q6_K,
+            ..LAYER
+        };
+        let (w, x) = (weights(210, &[208]), readings());
+        let mut kept = Kept::new();
+        assert_eq!(kept.wake(|slots, marks| layer.open(slots, marks)), Ok(()));
+        let mut y = [7.0; 3];
+        for (row, chunk) in [(2, 1), (0, 0), (2, 0)] {
+            let close = kept.wake(|slots, marks| layer.close(2, slots, marks, &mut y));
+            assert_eq!((close, y), (Err(Refusal::PieceOpen), [7.0; 3]));
+            let piece = kept.wake(|slots, marks| layer.piece(&w, &x, row, chunk, slots, marks));
+            assert_eq!(piece, Ok(()));
+            let again = kept.wake(|slots, marks| layer.piece(&w, &x, row, chunk, slots, marks));
+            assert_eq!(again, Err(Refusal::AlreadyDone));
+        }
+        assert_eq!(kept.marks, [1, 0, 0, 0, 1, 1]);
+        assert_eq!([1, 2, 3].map(|open| kept.slots[open]), [[0; 4]; 3]);
+        let close = kept.wake(|slots, marks| layer.close(2, slots, marks, &mut y));
+        assert_eq!(close, Ok(()));
+        let one_go = q6k_fused_f32_dot(&x, &w[2 * 33 * 210..], 8_448);
+        assert_eq!(Ok(y[2].to_bits()), one_go.map(f32::to_bits));
+        assert!(y[2].is_normal());
+        assert_eq!(y[..2], [7.0; 2]);
+    }
+
+    #[test]
+    fn a_nonzero_mark_means_done() {
+        let (w, x) = (weights(144, &[0, 2]), readings());
+        let mut slots = [1.0, 2.0, 4.0, 8.0, 16.0, 32.0];
+        let mut marks = [255, 2, 1, 0, 0, 128];
+        let run = LAYER.run(&w, &x, 0, &mut slots, &mut marks);
+        assert_eq!(run, Ok(Progress { done: 0, left: 2 }));
+        let mut y = [7.0; 3];
+        assert_eq!(LAYER.close(0, &slots, &marks, &mut y), Ok(()));
+        assert_eq!(y, [3.0, 7.0, 7.0]);
+        let run = LAYER.run(&w, &x, usize::MAX, &mut slots, &mut marks);
+        assert_eq!(run, Ok(Progress { done: 2, left: 0 }));
+        assert_eq!(marks, [255, 2, 1, 1, 1, 128]);
+        assert_eq!([0, 1, 2, 5].map(|kept| slots[kept]), [1.0, 2.0, 4.0, 32.0]);
+    }
+
+    #[test]
+    fn a_layer_of_no_readings_has_no_pieces() {
+        let layer = Layer {
+            in_feat: 0,
+            ..LAYER
+        };
+        let mut y = [7.0; 3];
+        assert_eq!(layer.open(&mut [], &mut []), Ok(()));
+        let run = layer.run(&[], &[], 5, &mut [], &mut []);
+        assert_eq!(run, Ok(Progress { done: 0, left: 0 }));
+        let piece = layer.piece(&[], &[], 0, 0, &mut [], &mut []);
+        assert_eq!(piece, Err(Refusal::Outside));
+        assert_eq!(layer.close(1, &[], &[], &mut y), Ok(()));
+        assert_eq!(y.map(f32::to_bits), [7f32, 0.0, 7.0].map(f32::to_bits));
+    }
+
+    #[test]
+    fn refusals_come_in_their_order_and_keep_slots_and_marks() {
+        let (w, x) = (weights(144, &[0, 2]), readings());
+        let (mut slots, mut marks) = ([7.0; PIECES], [0; PIECES]);
+        let mut piece = |format, in_feat, out_feat, w: &[u8], x: &[f32], room, row| {
+            let layer = Layer {
+                format,
+                in_feat,
+                out_feat,
+            };
+            layer.piece(w, x, row, 0, &mut slots[..room], &mut marks)
+        };
+        let (most, none): (_, &[u8]) = (MOST_IN + 1, &[]);
+        assert_eq!(piece(5, most, 3, none, &[], 0, 3), Err(Refusal::Unknown));
+        assert_eq!(piece(4, most, 3, none, &[], 0, 3), Err(Refusal::TooLarge));
+        let rows = MOST_OUT + 1;
+        assert_eq!(piece(4, 1, rows, none, &[], 0, 3), Err(Refusal::TooLarge));
+        assert_eq!(piece(4, 1, 3, none, &[], 0, 3), Err(Refusal::NotAMultiple));
+        let last = w.len() - 1;
+        let short = piece(4, 8_448, 3, &w[..last], &[], 0, 3);
+        assert_eq!(short, Err(Refusal::WeightsShort));
+        let short = piece(4, 8_448, 3, &w, &x[1..], 0, 3);
+        assert_eq!(short, Err(Refusal::ReadingsShort));
+        assert_eq!(piece(4, 8_448, 3, &w, &x, 5, 3), Err(Refusal::RoomShort));
+        assert_eq!(piece(4, 8_448, 3, &w, &x, 6, 3), Err(Refusal::Outside));
+        assert_eq!((slots, marks), ([7.0; PIECES], [0; PIECES]));
+        let close = LAYER.close(0, &slots, &marks, &mut [7.0; 2]);
+        assert_eq!(close, Err(Refusal::RoomShort));
+    }
+
+    #[test]
+    fn a_refusal_of_run_writes_no_counts() {
+        let (mut slots, mut marks) = ([7.0; 1], [0; 1]);
+        let mut run = |format| {
+            let mut counts = [7; 4];
+            let [_, done, left, _] = &mut counts;
+            // SAFETY: each pointer and length is a slice's, null with 0 for none, and what is
+            // written is lent to this call alone.
+            let number = unsafe {
+                let (w, x) = (std::ptr::null(), std::ptr::null());
+                let (slots, marks) = (slots.as_mut_ptr(), marks.as_mut_ptr());
+                sys::jambharrow_run(format, 0, 1, w, 0, x, 0, 1, slots, 1, marks, 1, done, left)
+            };
+            (number, counts)
+        };
+        assert_eq!(run(5), (Refusal::Unknown.number(), [7; 4]));
+        assert_eq!(run(4), (0, [7, 0, 0, 7]));
+    }
+}
