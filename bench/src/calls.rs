@@ -2,8 +2,7 @@
 use crate::measure::Row;
 use crate::{
     activation_blocks, binary16, block_decoders, block_quantizers, fixed_order_sums, fused_dots,
-    linear_layers,
-    stepped_layer,
+    linear_layers, stepped_layer,
 };
 
 pub struct Call {

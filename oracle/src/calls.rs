@@ -3,12 +3,11 @@ use crate::compare::Comparison;
 use crate::sample::Records;
 use crate::{
     activation_blocks, binary16, block_decoders, block_quantizers, fixed_order_sums, fused_dots,
-    linear_layers,
-    stepped_layer,
+    linear_layers, stepped_layer,
 };
 
 pub struct Call {
-    /// The name of the Rust's function.
+    /// The name of the Rust's function, or of what is added to them.
     pub name: &'static str,
     /// Compares both sides.
     pub compare: fn(&mut Comparison),
@@ -18,7 +17,7 @@ pub struct Call {
 
 /// Every call. A call's tag in the stored sample is its place here, so that a new one comes
 /// last.
-pub static CALLS: [Call; 28] = [
+pub static CALLS: [Call; 29] = [
     binary16::F16_TO_F32,
     binary16::F32_TO_F16,
     block_decoders::DEQUANTIZE_Q4_0,
@@ -47,10 +46,5 @@ pub static CALLS: [Call; 28] = [
     linear_layers::LINEAR_Q4_K_CPU,
     linear_layers::LINEAR_Q6_K_CPU,
     linear_layers::LINEAR_Q4_0_CPU,
+    stepped_layer::STEPPED,
 ];
-
-/// A name, and how what it names is compared.
-pub type Named = (&'static str, fn(&mut Comparison));
-
-/// What the Rust does not have: it is compared all the same, and no answer of it is stored.
-pub static ADDED: [Named; 1] = [("stepped", stepped_layer::compare)];

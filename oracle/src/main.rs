@@ -16,7 +16,7 @@ mod sample;
 mod stepped_layer;
 mod stepped_model;
 
-use calls::{Named, ADDED, CALLS};
+use calls::{Call, CALLS};
 use compare::Comparison;
 use std::env;
 use std::process::ExitCode;
@@ -51,25 +51,23 @@ fn misused(why: &str) -> ExitCode {
 }
 
 /// The calls of the names given, all where none is; or the name that no call has.
-fn chosen<'a>(names: &[&'a str]) -> Result<Vec<Named>, &'a str> {
-    let calls = CALLS.iter().map(|call| (call.name, call.compare));
-    let all: Vec<Named> = calls.chain(ADDED).collect();
+fn chosen<'a>(names: &[&'a str]) -> Result<Vec<&'static Call>, &'a str> {
     if names.is_empty() {
-        return Ok(all);
+        return Ok(CALLS.iter().collect());
     }
     names
         .iter()
-        .map(|&name| all.iter().find(|call| call.0 == name).copied().ok_or(name))
+        .map(|&name| CALLS.iter().find(|call| call.name == name).ok_or(name))
         .collect()
 }
 
-fn compare_all(calls: &[Named]) -> ExitCode {
+fn compare_all(calls: &[&Call]) -> ExitCode {
     let mut cases = 0;
     let mut values = 0;
     let mut differ = 0;
-    for &(name, compare) in calls {
-        let mut comparison = Comparison::of(name);
-        compare(&mut comparison);
+    for call in calls {
+        let mut comparison = Comparison::of(call.name);
+        (call.compare)(&mut comparison);
         cases += comparison.cases;
         values += comparison.values;
         differ += comparison.differ;

@@ -1,11 +1,20 @@
 //! The stepped layer, by histories: calls of every kind, one after another on the same memory, each
 //! held to document 01, and each closed row to the Rust's dot of it in one go.
+use crate::calls::Call;
 use crate::compare::{Compared, Comparison, Difference};
 use crate::held::{self, same, Place};
+use crate::sample::{count, floats, Records};
 use crate::stepped_model::{chunks, layout, needs, refusal, Input, Lengths, SteppedCall, Work};
 use jambharrow::{Layer, Progress, Refusal, MOST_IN, MOST_OUT};
 use oracle::inputs::{any_float, any_scale, row, trained_scale, Draw, SCALES};
 use oracle::random::Random;
+
+/// The Rust has no stepped layer: its calls are compared all the same.
+pub const STEPPED: Call = Call {
+    name: "stepped",
+    compare,
+    sample,
+};
 
 /// How many histories of each kind are played, and how many calls one has at most.
 const HISTORIES: u64 = 1 << 17;
@@ -19,7 +28,7 @@ const ROWS: usize = 8;
 /// How the scales of the weights are drawn. Of the last kind any may be a NaN or an infinity.
 const WEIGHT_SCALES: [Draw<u16>; 4] = [trained_scale, trained_scale, SCALES[2], any_scale];
 
-pub fn compare(comparison: &mut Comparison) {
+fn compare(comparison: &mut Comparison) {
     comparison.cases("histories of one layer", HISTORIES, |number| {
         play(&mut Random::new(number), false)
     });
@@ -31,6 +40,56 @@ pub fn compare(comparison: &mut Comparison) {
     comparison.cases(what, 4 << Reasons::COUNT, |number| {
         refuse(&mut Random::new(number), number)
     });
+}
+
+/// The layers whose histories are stored: format, in_feat and out_feat.
+const STORED: [(u8, usize, usize); 5] = [
+    (Layer::Q4_K, 8_448, 2),
+    (Layer::Q6_K, 8_448, 2),
+    (Layer::Q4_K, 256, 3),
+    (Layer::Q6_K, 512, 4),
+    (Layer::Q4_K, 0, 2),
+];
+
+/// A payload is the format, in_feat, out_feat, how many packed bytes and pieces there are, the
+/// readings, the bytes, the row and the chunk of each piece in the order of the calls, and the dot
+/// of each row, which is the Rust's in one go. Every other piece is named, the last one first; runs
+/// do the rest.
+fn sample(records: &mut Records) {
+    for (number, (format, in_feat, out_feat)) in (0..).zip(STORED) {
+        let layer = Layer {
+            format,
+            in_feat,
+            out_feat,
+        };
+        let mut random = Random::new(number);
+        let x = row(&mut random, in_feat);
+        let w = layout(format).blocks(&mut random, out_feat * in_feat / 256, trained_scale);
+        let all = (0..out_feat).flat_map(|row| (0..chunks(layer)).map(move |chunk| [row, chunk]));
+        let mut pieces: Vec<[usize; 2]> = all.collect();
+        pieces.reverse();
+        let named: Vec<u8> = pieces
+            .iter()
+            .step_by(2)
+            .flatten()
+            .flat_map(|&place| count(place))
+            .collect();
+        let mut input = Input::new(&w, &x);
+        let dots: Vec<f32> = (0..out_feat)
+            .map(|row| input.in_one_go(layer, row)[0])
+            .collect();
+        records.push(&[
+            &count(format.into()),
+            &count(in_feat),
+            &count(out_feat),
+            &count(w.len()),
+            &count(named.len() / 8),
+            &floats(&x),
+            &w,
+            &named,
+            &floats(&dots),
+        ]);
+    }
 }
 
 /// A history of one layer. With `others`, some calls are of another layer, and at times a mark
