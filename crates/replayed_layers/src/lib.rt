@@ -116,7 +116,13 @@ fn judge(call: Call, payload: &[u8]) -> Finding {
     let w_len = u32_at(payload, 16) as usize;
     let y_len = u32_at(payload, 20) as usize;
     let scratch_len = u32_at(payload, 24) as usize;
-    if x_len > MOST || y_len > MOST || scratch_len > MOST {
+    if x_len > MOST {
+        return Finding::Malformed;
+    }
+    if y_len > MOST {
+        return Finding::Malformed;
+    }
+    if scratch_len > MOST {
         return Finding::Malformed;
     }
     let w_at = 28 + 4 * x_len;
