@@ -279,6 +279,7 @@ unsafe extern "C" {
         batch: usize,
         in_feat: usize,
         out_feat: usize,
+    ) -> u32;
     pub fn jambharrow_open(
         format: u8,
         in_feat: usize,

@@ -3,7 +3,7 @@ use mathlib.Core.Path.{_≡_, refl}
 use mathlib.Core.List.{List, [], _∷_}
 use Prim.Native.Nat.{ℕ}
 use lib.ListN.{replicate}
-use lib.Ieee.{Float, binary32, ofBits, ofFields, odd, size, span, climb, units, round, ofInt, toSigned, add, sub, mul, div, lt, le, eq, neg}
+use lib.Ieee.{Float, binary32, ofBits, ofInt, toSigned, sub, mul, div, le}
 use Rattle.refusals.specs.Said.{done}
 use Rattle.refusals.specs.Refusals.{given, carriedOut}
 use Rattle.numbers.specs.Binary16.{widened}
@@ -29,9 +29,9 @@ pub readings : List Float
 readings = replicate 256 nought
 
 pub by-the-tree : integerLayerSays Q4K Tree (shape 1 256 1) readings weights (nought ∷ []) ≡ (done, ofBits binary32 0x80000000 ∷ [])
-unfolding integerLayerSays carriedOut layerNo given oversize outputs meets tree met pairUp weights readings blockDot blockOf table sumℤ scaleQ4K minimumQ4K quantQ4K widened largest quantQ8 ofBits ofFields odd size span climb units round ofInt toSigned add sub mul div lt le eq neg
+unfolding integerLayerSays carriedOut layerNo given oversize outputs meets tree met pairUp weights readings blockDot blockOf table sumℤ scaleQ4K minimumQ4K quantQ4K widened largest quantQ8 ofBits ofInt toSigned sub mul div le
 by-the-tree = refl
 
 pub by-the-running-sum : integerLayerSays Q4K Running (shape 1 256 1) readings weights (nought ∷ []) ≡ (done, ofBits binary32 0x00000000 ∷ [])
-unfolding integerLayerSays carriedOut layerNo given oversize outputs meets running weights readings blockDot blockOf table sumℤ scaleQ4K minimumQ4K quantQ4K widened largest quantQ8 ofBits ofFields odd size span climb units round ofInt toSigned add sub mul div lt le eq neg
+unfolding integerLayerSays carriedOut layerNo given oversize outputs meets running weights readings blockDot blockOf table sumℤ scaleQ4K minimumQ4K quantQ4K widened largest quantQ8 ofBits ofInt toSigned sub mul div le
 by-the-running-sum = refl
