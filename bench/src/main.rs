@@ -22,10 +22,11 @@ most that this may be, and the word behind it says whether it is held. Neither s
 inlined where it is measured: ours is called through C, and the Rust through a pointer, so
 that each pays for one call. The Rust's block decoders put their values into a new vector,
 which is part of their time and cannot be taken out of them, as its block quantizers do with
-their bytes and its row dots with the sums of their chunks or blocks; to make and to drop a
-decoder's vector takes the time in the column `vector`. Ours fill lent memory. The
-Rust has no stepped layer: beside ours, from the open of a layer to the close of its last row,
-by runs with a budget of 1 or by pieces, stands the same layer in one go, which is ours too.";
+their bytes, its row dots with the sums of their chunks or blocks, and its `_cpu` layers with
+all of their weights; to make and to drop a decoder's vector, or such a layer's, takes the time
+in the column `vector`. Ours fill lent memory. The Rust has no stepped layer: beside ours, from
+the open of a layer to the close of its last row, by runs with a budget of 1 or by pieces,
+stands the same layer in one go, which is ours too.";
 
 fn main() -> ExitCode {
     let names: Vec<String> = env::args().skip(1).collect();
