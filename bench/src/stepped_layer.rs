@@ -30,15 +30,15 @@ const CHUNK: usize = 8_192;
 /// How much of the time in one go a layer by pieces may take at most.
 const BAR: f64 = 1.1;
 
-/// The dot of a row.
-type Dot = fn(&[f32], &[u8], usize) -> Result<f32, Refusal>;
+/// A layer in one go: readings, weights and output, batch, in_feat and out_feat.
+type OneGo = fn(&[f32], &[u8], &mut [f32], usize, usize, usize) -> Result<(), Refusal>;
 
-/// A format, and the dot of a row of it.
+/// A format, and a layer of it in one go.
 struct Format {
     name: &'static str,
     byte: u8,
     layout: Layout,
-    dot: Dot,
+    one_go: OneGo,
 }
 
 const FORMATS: [Format; 2] = [
@@ -46,13 +46,13 @@ const FORMATS: [Format; 2] = [
         name: "Q4_K",
         byte: Layer::Q4_K,
         layout: inputs::Q4_K,
-        dot: jambharrow::canonical_dot_q4k_fused,
+        one_go: jambharrow::linear_q4_k_fused,
     },
     Format {
         name: "Q6_K",
         byte: Layer::Q6_K,
         layout: inputs::Q6_K,
-        dot: jambharrow::q6k_fused_f32_dot,
+        one_go: jambharrow::linear_q6_k_fused,
     },
 ];
 
@@ -85,7 +85,7 @@ impl Format {
             y: vec![0.0; out_feat],
         };
         let mut whole = work.clone();
-        let (dot, bytes) = (self.dot, blocks * self.layout.bytes);
+        let one_go = self.one_go;
         Row {
             input: format!("{} {out_feat} x {in_feat}, {by}/one go", self.name),
             calls: 1,
@@ -93,10 +93,8 @@ impl Format {
             vector: None,
             ours: Box::new(move || worked(black_box(&mut work))),
             rust: Box::new(move || {
-                let Work { layer, w, x, y, .. } = black_box(&mut whole);
-                for (y, w) in y.iter_mut().zip(w.chunks_exact(bytes)) {
-                    *y = dot(x, w, layer.in_feat).expect("a row of the layer");
-                }
+                let Work { w, x, y, .. } = black_box(&mut whole);
+                one_go(x, w, y, 1, in_feat, out_feat).expect("the whole layer");
             }),
         }
     }
