@@ -244,7 +244,7 @@ uint32_t jambharrow_q6k_fused_f32_dot(const float *x, size_t x_len,
  *   JAMBHARROW_ROOM_SHORT       fewer than batch * out_feat places in y.
  * Bytes, readings and places of y behind those that it needs are not looked at, and kept. */
 
-/* Q4_K, fused: an output is jambharrow_canonical_dot_q4k_fused of its rows. It needs at most 2,048
+/* Q4_K, fused: an output is jambharrow_canonical_dot_q4k_fused of its rows. It needs at most 4,096
  * bytes of stack. */
 uint32_t jambharrow_linear_q4_k_fused(const float *x, size_t x_len, const uint8_t *w, size_t w_len,
                                       float *y, size_t y_len,
