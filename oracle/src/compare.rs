@@ -75,10 +75,10 @@ impl Comparison {
 /// How many values were compared; of the cases that differ how many, and the first of them by
 /// number.
 #[derive(Default)]
-struct Found {
-    values: u64,
-    differ: u64,
-    first: Vec<(u64, Difference)>,
+pub struct Found {
+    pub values: u64,
+    pub differ: u64,
+    pub first: Vec<(u64, Difference)>,
 }
 
 impl Found {
@@ -104,7 +104,7 @@ impl Found {
 }
 
 /// Each thread takes the next run of cases until none is left, so its own cases rise.
-fn search<F>(count: u64, case: &F, progress: &Progress) -> Found
+pub fn search<F>(count: u64, case: &F, progress: &Progress) -> Found
 where
     F: Fn(u64) -> Compared + Sync,
 {
@@ -135,7 +135,7 @@ where
 }
 
 /// How far a comparison is, on standard error, where that is a terminal.
-struct Progress {
+pub struct Progress {
     label: String,
     count: u64,
     percent: AtomicU64,
@@ -143,7 +143,7 @@ struct Progress {
 }
 
 impl Progress {
-    fn of(label: String, count: u64) -> Progress {
+    pub fn of(label: String, count: u64) -> Progress {
         Progress {
             label,
             count,
@@ -159,7 +159,7 @@ impl Progress {
         }
     }
 
-    fn clear(&self) {
+    pub fn clear(&self) {
         if self.on {
             eprint!("\r\x1b[K");
             let _ = io::stderr().flush();

@@ -1,16 +1,25 @@
-//! Holds Jambharrow to the Rust, call by call, and stores a sample of the Rust's answers.
+//! Holds Jambharrow to the Rust, call by call, and the program `fillin` to the Rust's row dots; stores
+//! a sample of the Rust's answers and the record files of the gate.
 mod activation_blocks;
 mod binary16;
 mod block_decoders;
 mod block_quantizers;
 mod calls;
 mod compare;
+mod fillin;
 mod fixed_order_sums;
 mod fused_dots;
+mod gate_records;
 mod held;
 mod layer_cases;
 mod layers;
 mod linear_layers;
+mod month;
+mod options;
+mod record_cases;
+mod record_damage;
+mod record_files;
+mod record_makers;
 mod row_dots;
 mod sample;
 mod stepped_layer;
@@ -18,13 +27,25 @@ mod stepped_model;
 
 use calls::{Call, CALLS};
 use compare::Comparison;
+use options::Options;
 use std::env;
+use std::fmt::Display;
 use std::process::ExitCode;
 
 const USAGE: &str = "\
 oracle compare [CALL..]   compares ours with the Rust, on the calls named or on all; `stepped`
                           names those of the stepped layer; status 1 where an answer differs
-oracle sample             writes the stored sample that the program `replay` replays";
+oracle sample             writes the stored sample that the program `replay` replays
+oracle fillin PROGRAM [--files N] [--seed S]
+                          runs the program on N generated record files, most of them damaged, and
+                          compares what it prints (100000 files, seed 1); keeps the files on which
+                          it differs in the working directory; status 1 where there is one
+oracle records            writes the record files of the gate's programs, what they are to print,
+                          and examples/example.records
+oracle month FILE [--windows N] [--format F]
+                          writes a month of windows of the largest layer as a record file (43200
+                          windows, format 4)
+oracle dots FILE          prints how long the row dots of a record file take alone, on both sides";
 
 fn main() -> ExitCode {
     let words: Vec<String> = env::args().skip(1).collect();
@@ -34,14 +55,56 @@ fn main() -> ExitCode {
             Ok(calls) => compare_all(&calls),
             Err(name) => misused(&format!("no call has the name {name}")),
         },
-        ["sample"] => match sample::write() {
-            Ok(()) => ExitCode::SUCCESS,
-            Err(error) => {
-                eprintln!("oracle: the sample: {error}");
-                ExitCode::FAILURE
-            }
-        },
+        ["sample"] => ended("the sample", sample::write().map(|()| true)),
+        ["fillin", program, ref options @ ..] => fillin(program, options),
+        ["records"] => ended("the records", gate_records::write().map(|()| true)),
+        ["month", file, ref options @ ..] => month(file, options),
+        ["dots", file] => ended("the dots", month::time_dots(file).map(|()| true)),
         _ => misused(USAGE),
+    }
+}
+
+fn fillin(program: &str, options: &[&str]) -> ExitCode {
+    let mut options = match Options::of(options) {
+        Ok(options) => options,
+        Err(why) => return misused(&why),
+    };
+    let (files, seed) = (options.take("--files", 100_000), options.take("--seed", 1));
+    match options.rest() {
+        Ok(()) => ended("fillin", fillin::compare(program, files, seed)),
+        Err(why) => misused(&why),
+    }
+}
+
+fn month(file: &str, options: &[&str]) -> ExitCode {
+    let mut options = match Options::of(options) {
+        Ok(options) => options,
+        Err(why) => return misused(&why),
+    };
+    let windows = options.take("--windows", month::WINDOWS);
+    let format = match options.take("--format", 4) {
+        4 => 4,
+        6 => 6,
+        _ => return misused("the formats are 4 and 6"),
+    };
+    match options.rest() {
+        Ok(()) => ended(
+            "the month",
+            month::write(file, format, windows).map(|()| true),
+        ),
+        Err(why) => misused(&why),
+    }
+}
+
+/// How a command ended: as it is to, with a difference, or with an error, which is shown.
+fn ended<E: Display>(what: &str, result: Result<bool, E>) -> ExitCode {
+    match result {
+        Ok(true) => ExitCode::SUCCESS,
+        Ok(false) => ExitCode::FAILURE,
+        Err(error) => {
+            eprintln!("oracle: {what}: {error}");
+            ExitCode::FAILURE
+        }
     }
 }
 
