@@ -1,5 +1,5 @@
 //! Damage to record files, of every kind that a cut upload, a bad link or another program makes.
-use crate::record_makers::{any_file, any_window};
+use crate::record_makers::{any_file, any_window, record};
 use crate::sample::count;
 use oracle::random::Random;
 
@@ -56,7 +56,7 @@ fn mix_records(random: &mut Random, records: &mut Vec<Vec<u8>>) {
             return;
         }
         let at = random.below(records.len());
-        match random.below(5) {
+        match random.below(6) {
             0 => {
                 let other = random.below(records.len());
                 records.swap(at, other);
@@ -69,9 +69,16 @@ fn mix_records(random: &mut Random, records: &mut Vec<Vec<u8>>) {
                 let from = random.below(other.len());
                 records.extend_from_slice(&other[from..]);
             }
+            4 => records.insert(at, longest(random)),
             _ => records.insert(at, any_window(random, 256)),
         }
     }
+}
+
+/// A whole record of about the most length, so that the length alone decides about it.
+fn longest(random: &mut Random) -> Vec<u8> {
+    let length = any_of(random, &[32_767, 32_768, 32_769, 32_770]);
+    record(any_of(random, &KINDS), &random.bytes(length - 2))
 }
 
 /// A record's fields no longer go with what it holds, or what it holds with its fields.

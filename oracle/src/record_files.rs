@@ -2,7 +2,6 @@
 //! windows are answered by the Rust's own row dots.
 use oracle::inputs::{Layout, Q4_K, Q6_K};
 use oracle::ops::quant;
-use std::fmt::Write;
 
 /// Document 01's numbers that say no to a record.
 pub const NOT_A_MULTIPLE: u32 = 2;
@@ -157,6 +156,7 @@ impl<'a> Iterator for Reader<'a> {
 }
 
 /// What `fillin` is to print of a file, and what that comes to.
+#[derive(Default)]
 pub struct Transcript {
     pub text: String,
     /// Windows answered, and windows refused by their readings.
@@ -168,56 +168,54 @@ pub struct Transcript {
 
 /// Reads a file to its end, or to the record that stops it.
 pub fn transcript(file: &[u8]) -> Transcript {
+    let mut transcript = Transcript::default();
     let mut reader = Reader::of(file);
-    let mut text = String::new();
-    let (mut answered, mut refused) = (0, 0);
-    let mut stop = None;
     while let Some(record) = reader.next() {
         match record {
-            Ok(Record::Layer(layer)) => {
-                let Layer {
-                    format,
-                    in_feat,
-                    out_feat,
-                    ..
-                } = layer;
-                text += &format!("layer {format} {in_feat} {out_feat}\n");
-            }
-            Ok(Record::Window(layer, readings)) => {
-                answered += 1;
-                text += &format!("window {}", answered + refused);
-                for answer in layer.answers(&readings) {
-                    write!(text, " {:08X}", shown_bits(answer)).expect("a string takes all text");
-                }
-                text += "\n";
-            }
-            Ok(Record::WarmUp) => {
-                refused += 1;
-                text += &format!("window {} refused {WARM_UP}\n", answered + refused);
-            }
+            Ok(record) => transcript.add(record),
             Err(number) => {
-                text += &format!("stop {number} {}\n", reader.offset);
-                stop = Some(number);
-                break;
+                transcript.text += &format!("stop {number} {}\n", reader.offset);
+                transcript.stop = Some(number);
+                return transcript;
             }
         }
     }
-    if stop.is_none() {
-        text += &format!("end {answered} {refused}\n");
-    }
-    Transcript {
-        text,
-        answered,
-        refused,
-        stop,
+    let Transcript {
+        answered, refused, ..
+    } = transcript;
+    transcript.text += &format!("end {answered} {refused}\n");
+    transcript
+}
+
+impl Transcript {
+    /// The line of a record.
+    fn add(&mut self, record: Record) {
+        let number = self.answered + self.refused + 1;
+        self.text += &match record {
+            Record::Layer(Layer {
+                format,
+                in_feat,
+                out_feat,
+                ..
+            }) => format!("layer {format} {in_feat} {out_feat}\n"),
+            Record::Window(layer, readings) => {
+                self.answered += 1;
+                let outputs = layer.answers(&readings).into_iter().map(shown);
+                format!("window {number}{}\n", outputs.collect::<String>())
+            }
+            Record::WarmUp => {
+                self.refused += 1;
+                format!("window {number} refused {WARM_UP}\n")
+            }
+        };
     }
 }
 
-/// The bits of an output; every NaN is shown as one.
-fn shown_bits(output: f32) -> u32 {
-    if output.is_nan() {
-        0x7FC0_0000
-    } else {
-        output.to_bits()
-    }
+/// A space and the bits of an output; every NaN is shown as one.
+fn shown(output: f32) -> String {
+    let bits = match output.is_nan() {
+        true => 0x7FC0_0000,
+        false => output.to_bits(),
+    };
+    format!(" {bits:08X}")
 }
