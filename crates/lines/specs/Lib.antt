@@ -1,0 +1,3 @@
+-- The text that `fillin` writes.
+pub mod Text
+pub mod Lines

@@ -1,0 +1,61 @@
+// A record: a u32 length of its kind and payload, a u16 kind, the payload.
+use crate::fields::u32_at;
+ghost use mathlib.Core.Path.{_≡_};
+ghost use Prim.Native.Nat.{_≤_};
+ghost use lib.ListN.{length};
+ghost use Rattle.records.specs.Frame.{goodLength, sizeOf, isWhole, payloadAt};
+
+// A record's bytes at most: its length field, and a kind and payload of 32,768.
+pub const MOST_RECORD: usize = 32_772;
+
+// Whether a length field is from 2 to 32,768.
+fn good_length(n: usize) -> bool
+    ensures { λ r. ⌜ r ≡ goodLength n ⌝ }
+{
+    if n < 2 {
+        return false;
+    }
+    n <= 32768
+}
+
+// How many bytes the record has that begins with these: 4, its length field, where that is missing or bad.
+pub fn size_of(s: &[u8]) -> usize
+    ensures { λ r. ⌜ (r ≡ sizeOf (now (s .entry))) × (4 ≤ r) × (r ≤ 32772) ⌝ }
+{
+    if s.len() < 4 {
+        return 4;
+    }
+    let n = u32_at(s, 0);
+    if good_length(n) { 4 + n } else { 4 }
+}
+
+// Whether a whole record with a good length stands at i.
+pub(crate) fn is_whole(s: &[u8], i: usize) -> bool
+    ensures { λ r. ⌜ r ≡ isWhole (now (s .entry)) i ⌝ }
+{
+    if i > s.len() {
+        return false;
+    }
+    if s.len() - i < 4 {
+        return false;
+    }
+    let n = u32_at(s, i);
+    if !good_length(n) {
+        return false;
+    }
+    n <= s.len() - i - 4
+}
+
+// The payload of the record at i, as a part of the input; the empty part where no whole record stands there.
+pub fn payload(s: &[u8], i: usize) -> &[u8]
+    ensures { λ r. ⌜ now r ≡ payloadAt (now (s .entry)) i ⌝ }
+{
+    if is_whole(s, i) {
+        let n = u32_at(s, i);
+        let from = i + 6;
+        let to = i + 4 + n;
+        &s[from..to]
+    } else {
+        &s[..0]
+    }
+}

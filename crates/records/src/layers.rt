@@ -1,0 +1,55 @@
+// Kind 1, a layer: format byte, u32 in_feat, u32 out_feat, then exactly the weights.
+use crate::fields::u32_at;
+ghost use mathlib.Core.Path.{_≡_};
+ghost use lib.ListN.{drop};
+ghost use Rattle.records.specs.Kinds.{layerNo};
+
+// The bytes before a layer's weights.
+pub(crate) const HEAD: usize = 9;
+
+// in_feat at most.
+pub const MOST_IN: usize = 2_048;
+// out_feat at most.
+pub const MOST_OUT: usize = 16;
+
+// The weights of a layer's payload, as a part of it.
+pub fn weights(p: &[u8]) -> &[u8]
+    ensures { λ r. ⌜ now r ≡ drop 9 (now (p .entry)) ⌝ }
+{
+    if p.len() < HEAD { &p[..0] } else { &p[HEAD..] }
+}
+
+// Why a layer's payload is refused; 0 where it is not.
+pub(crate) fn layer_no(p: &[u8]) -> u32
+    ensures { λ r. ⌜ r ≡ layerNo (now (p .entry)) ⌝ }
+{
+    if p.len() < HEAD {
+        return refusals::MALFORMED;
+    }
+    let format = p[0];
+    if !layouts::known_format(format) {
+        return refusals::UNKNOWN;
+    }
+    let in_feat = u32_at(p, 1);
+    if in_feat < 1 {
+        return refusals::TOO_LARGE;
+    }
+    if in_feat > MOST_IN {
+        return refusals::TOO_LARGE;
+    }
+    let out_feat = u32_at(p, 5);
+    if out_feat < 1 {
+        return refusals::TOO_LARGE;
+    }
+    if out_feat > MOST_OUT {
+        return refusals::TOO_LARGE;
+    }
+    if in_feat % 256 != 0 {
+        return refusals::NOT_A_MULTIPLE;
+    }
+    let need = out_feat * shapes::row_bytes(layouts::format_of(format), in_feat);
+    if p.len() - HEAD != need {
+        return refusals::MALFORMED;
+    }
+    0
+}

@@ -1,0 +1,13 @@
+// The record reader: what stands at an offset of a record file, or the number that says no.
+mod fields;
+mod frame;
+mod layers;
+mod reader;
+mod windows;
+
+pub use frame::payload;
+pub use frame::size_of;
+pub use layers::weights;
+pub use reader::Item;
+pub use reader::read_at;
+pub use windows::readings;
