@@ -12,10 +12,18 @@ pub(crate) fn u16_at(s: &[u8], i: usize) -> usize
     numbers::le_u16(s[i], s[i + 1]) as usize
 }
 
-// The four bytes at i.
+// The four bytes at i, as bits.
+pub(crate) fn bits_at(s: &[u8], i: usize) -> u32
+    requires { ⌜ i + 4 ≤ length (now s) ⌝ }
+    ensures { λ r. ⌜ r ≡ le32 (now (s .entry)) i ⌝ }
+{
+    numbers::le_u32(s[i], s[i + 1], s[i + 2], s[i + 3])
+}
+
+// The four bytes at i, as a size.
 pub(crate) fn u32_at(s: &[u8], i: usize) -> usize
     requires { ⌜ i + 4 ≤ length (now s) ⌝ }
     ensures { λ r. ⌜ (r ≡ le32 (now (s .entry)) i) × (r < 4294967296) ⌝ }
 {
-    numbers::le_u32(s[i], s[i + 1], s[i + 2], s[i + 3]) as usize
+    bits_at(s, i) as usize
 }

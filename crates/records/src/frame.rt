@@ -5,7 +5,10 @@ ghost use Prim.Native.Nat.{_≤_};
 ghost use lib.ListN.{length};
 ghost use Rattle.records.specs.Frame.{goodLength, sizeOf, isWhole, payloadAt};
 
-// A record's bytes at most: its length field, and a kind and payload of 32,768.
+// What a length field says at most: a kind and its payload.
+const MOST_LENGTH: usize = 32_768;
+
+// A record's bytes at most, with its length field.
 pub const MOST_RECORD: usize = 32_772;
 
 // Whether a length field is from 2 to 32,768.
@@ -15,7 +18,7 @@ fn good_length(n: usize) -> bool
     if n < 2 {
         return false;
     }
-    n <= 32768
+    n <= MOST_LENGTH
 }
 
 // How many bytes the record has that begins with these: 4, its length field, where that is missing or bad.

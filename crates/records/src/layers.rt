@@ -5,12 +5,14 @@ ghost use lib.ListN.{drop};
 ghost use Rattle.records.specs.Kinds.{layerNo};
 
 // The bytes before a layer's weights.
-pub(crate) const HEAD: usize = 9;
+const HEAD: usize = 9;
 
 // in_feat at most.
 pub const MOST_IN: usize = 2_048;
 // out_feat at most.
 pub const MOST_OUT: usize = 16;
+// The bytes of a layer's weights at most: 16 rows of 8 blocks of 210 bytes.
+pub const MOST_WEIGHTS: usize = 26_880;
 
 // The weights of a layer's payload, as a part of it.
 pub fn weights(p: &[u8]) -> &[u8]

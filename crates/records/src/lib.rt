@@ -5,8 +5,12 @@ mod layers;
 mod reader;
 mod windows;
 
+pub use frame::MOST_RECORD;
 pub use frame::payload;
 pub use frame::size_of;
+pub use layers::MOST_IN;
+pub use layers::MOST_OUT;
+pub use layers::MOST_WEIGHTS;
 pub use layers::weights;
 pub use reader::Item;
 pub use reader::read_at;

@@ -1,5 +1,5 @@
 // Kind 2, a window: in_feat f32 values for the latest layer.
-use crate::fields::u32_at;
+use crate::fields::bits_at;
 ghost use mathlib.Core.Path.{_≡_};
 ghost use Prim.Native.Nat.{_*_, _≤_};
 ghost use lib.ListN.{length};
@@ -13,12 +13,7 @@ pub fn readings(p: &[u8], x: &mut [f32])
 {
     let mut k: usize = 0;
     while k < x.len() {
-        x[k] = numbers::of_bits(numbers::le_u32(
-            p[k * 4],
-            p[k * 4 + 1],
-            p[k * 4 + 2],
-            p[k * 4 + 3],
-        ));
+        x[k] = numbers::of_bits(bits_at(p, k * 4));
         k += 1;
     }
 }
@@ -29,7 +24,7 @@ fn has_zero(p: &[u8], n: usize) -> bool
     ensures { λ r. ⌜ r ≡ hasZero (now (p .entry)) n ⌝ }
 {
     for k in 0..n {
-        if u32_at(p, k * 4) == 0 {
+        if bits_at(p, k * 4) == 0 {
             return true;
         }
     }

@@ -1,0 +1,25 @@
+-- Numbers from 1 to a most. Assumes nothing.
+use Prim.Native.Nat.{ℕ, _≤_, _<_}
+use mathlib.Core.Path.{_≡_}
+use mathlib.Core.Bool.{true, false, not, and-false}
+use borrow.Author.Tests.{leb-true, le-leb, lt-leb}
+use Rattle.records.specs.Kinds.{upTo}
+use Rattle.records.proofs.Whole.{both}
+
+pub up-to : (most n : ℕ) → upTo most n ≡ true → (1 ≤ n) × (n ≤ most)
+unfolding upTo
+up-to most n e = let h = both _ _ e in (leb-true _ _ (h .0), leb-true _ _ (h .1))
+
+-- the number that the code read, n, is the field m
+module _ (most n m : ℕ) (e : n ≡ m) where
+  pub below : n < 1 → not (upTo most m) ≡ true
+  unfolding upTo
+  below h = simp (← e, lt-leb _ _ h)
+
+  pub above : most < n → not (upTo most m) ≡ true
+  unfolding upTo
+  above h = simp (← e, lt-leb _ _ h, and-false)
+
+  pub among : 1 ≤ n → n ≤ most → not (upTo most m) ≡ false
+  unfolding upTo
+  among h k = simp (← e, le-leb _ _ h, le-leb _ _ k)
