@@ -2,5 +2,7 @@
 pub mod Whole
 pub mod UpTo
 pub mod Zeros
+pub mod Items
 pub mod Read
 pub mod OneByOne
+pub mod Unique
