@@ -39,14 +39,11 @@ fn hex_digit(d: u32) -> u8
     if d < 10 { 48 + d as u8 } else { 55 + d as u8 }
 }
 
-// Lays a space and the eight hexadecimal digits of an output's bits, 9 bytes.
-pub(crate) fn put_output(line: &mut [u8], at: usize, output: f32) -> usize
-    requires { ⌜ at + 9 ≤ length (now line) ⌝ }
-    ensures { λ _. ⌜ now (line .exit) ≡ laid (now (line .entry)) at (hexField (toBits binary32 output)) ⌝ }
-    ensures { λ r. ⌜ r ≡ at + 9 ⌝ }
+// A space and the eight hexadecimal digits of 32 bits.
+fn hex_field(bits: u32) -> [u8; 9]
+    ensures { λ r. ⌜ r ≡ hexField bits ⌝ }
 {
-    let bits = numbers::bits_of(output);
-    let text = [
+    [
         b' ',
         hex_digit(bits / 0x1000_0000),
         hex_digit(bits / 0x100_0000 % 16),
@@ -56,6 +53,15 @@ pub(crate) fn put_output(line: &mut [u8], at: usize, output: f32) -> usize
         hex_digit(bits / 0x100 % 16),
         hex_digit(bits / 0x10 % 16),
         hex_digit(bits % 16),
-    ];
+    ]
+}
+
+// Lays a space and the eight hexadecimal digits of an output's bits, 9 bytes.
+pub(crate) fn put_output(line: &mut [u8], at: usize, output: f32) -> usize
+    requires { ⌜ at + 9 ≤ length (now line) ⌝ }
+    ensures { λ _. ⌜ now (line .exit) ≡ laid (now (line .entry)) at (hexField (toBits binary32 output)) ⌝ }
+    ensures { λ r. ⌜ r ≡ at + 9 ⌝ }
+{
+    let text = hex_field(numbers::bits_of(output));
     put(line, at, &text)
 }
