@@ -10,7 +10,7 @@ use Rattle.memory.specs.Lists.{table}
 use Rattle.stepped.specs.Layer.{isOpen, openCount}
 use Rattle.stepped.specs.Says.{noMark}
 
-open-append : (a b : List ℕ) → openCount (a ++ b) ≡ openCount a + openCount b
+pub open-append : (a b : List ℕ) → openCount (a ++ b) ≡ openCount a + openCount b
 unfolding openCount
 open-append [] b = omega arith
 open-append (m ∷ a) b = omega (arith, open-append a b)

@@ -1,0 +1,3 @@
+-- What `fillin` answers: outputs through the stepped layer.
+pub mod Rows
+pub mod Never
