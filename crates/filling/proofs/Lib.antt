@@ -1,3 +1,4 @@
 -- What `fillin` answers: outputs through the stepped layer.
 pub mod Rows
 pub mod Never
+pub mod RecordByRecord

@@ -1,0 +1,33 @@
+-- The whole transcript of a whole input. Definitions only.
+use Prim.Native.Nat.{ℕ, zero, suc, _+_}
+use mathlib.Core.Bool.{Bool, cond}
+use mathlib.Core.List.{List, [], _++_}
+use lib.ListN.{length, take, drop}
+use Rattle.records.specs.Frame.{sizeOf, payloadAt}
+use Rattle.records.specs.Found.{foundAt}
+use Rattle.filling.specs.declared.state.State.{State}
+use Rattle.filling.specs.Kept.{begun}
+use Rattle.filling.specs.Answers.{Response, respond, answerTo}
+
+-- what the record at the kept offset of the input s is answered with
+unfoldable pub answerIn : List ℕ → State → List ℕ → Response
+answerIn s st w = respond (foundAt s (st .offset) (st .layer .«in_feat»)) (payloadAt s (st .offset)) st w
+
+-- the lines from the kept offset on, at most `most` of them
+unfoldable pub linesFrom : (most : ℕ) → List ℕ → State → List ℕ → List ℕ
+linesFrom zero s st w = []
+linesFrom (suc most) s st w =
+    let a = answerIn s st w in
+    a .text ++ cond (a .over) [] (linesFrom most s (a .state) (a .weights))
+
+-- the transcript of the input s: a record has at least six bytes, so there are no more lines than bytes and an end
+unfoldable pub transcript : List ℕ → List ℕ
+transcript s = linesFrom (length s + 1) s begun []
+
+-- ---- the same, record by record: a record's own bytes are answered, and what is left is only what follows them
+
+unfoldable pub byRecords : (most : ℕ) → (rest : List ℕ) → State → List ℕ → List ℕ
+byRecords zero rest st w = []
+byRecords (suc most) rest st w =
+    let a = answerTo st w (take (sizeOf rest) rest) in
+    a .text ++ cond (a .over) [] (byRecords most (drop (sizeOf rest) rest) (a .state) (a .weights))
