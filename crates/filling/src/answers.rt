@@ -6,13 +6,12 @@ use records::Item;
 use refusals::Outcome;
 use stepped::Layer;
 ghost use mathlib.Core.Path.{_≡_};
-ghost use Prim.Native.Nat.{_+_, _*_, _≤_};
-ghost use mathlib.Core.List.{List, []};
+ghost use Prim.Native.Nat.{_+_, _*_, _^_, _≤_, _<_};
+ghost use mathlib.Core.List.{[]};
 ghost use lib.ListN.{length, take, drop};
 ghost use Rattle.lines.specs.Text.{laid};
-ghost use Rattle.records.specs.Kinds.{weightBytes};
 ghost use Rattle.records.specs.Found.{ended, layer, window, warmUp, refused};
-ghost use Rattle.filling.specs.Kept.{Held, Ready, heldLayer};
+ghost use Rattle.filling.specs.Kept.{Held, Ready};
 ghost use Rattle.filling.specs.Answers.{Replied, respond, answerTo};
 
 // Nothing is left: `end`.
