@@ -126,10 +126,10 @@ fn answer_window(st: State, size: usize, payload: &[u8], weights: &[u8], line: &
 
 // Answers the record that these bytes are: one record, or what is left of the input where that is less. The line's text stands at the front of `line`, and the latest layer's weights at the front of `weights`.
 pub fn answer(st: State, record: &[u8], weights: &mut [u8], line: &mut [u8]) -> Reply
-    requires { ⌜ Ready st (length (now record)) (length (now weights)) (length (now line)) ⌝ }
-    ensures { λ r. ⌜ Replied (answerTo st (take (st .«weight_bytes») (now (weights .entry))) (now (record .entry))) r (now (line .entry)) (now (line .exit)) ⌝ }
-    ensures { λ _. ⌜ now (weights .exit) ≡ laid (now (weights .entry)) 0 (answerTo st (take (st .«weight_bytes») (now (weights .entry))) (now (record .entry)) .weights) ⌝ }
-    ensures { λ r. ⌜ Held (r .state) × (r .state .offset ≤ st .offset + length (now (record .entry))) × (r .state .answered + r .state .refused ≤ st .answered + st .refused + 1) × (r .length ≤ length (now (line .exit))) ⌝ }
+    requires { ⌜ Ready st (length (now «record»)) (length (now weights)) (length (now line)) ⌝ }
+    ensures { λ r. ⌜ Replied (answerTo st (take (st .«weight_bytes») (now (weights .entry))) (now («record» .entry))) r (now (line .entry)) (now (line .exit)) ⌝ }
+    ensures { λ _. ⌜ now (weights .exit) ≡ laid (now (weights .entry)) 0 (answerTo st (take (st .«weight_bytes») (now (weights .entry))) (now («record» .entry)) .weights) ⌝ }
+    ensures { λ r. ⌜ Held (r .state) × (r .state .offset ≤ st .offset + length (now («record» .entry))) × (r .state .answered + r .state .refused ≤ st .answered + st .refused + 1) × (r .length ≤ length (now (line .exit))) ⌝ }
 {
     let l = st.layer;
     match records::read_at(record, 0, l.in_feat) {
