@@ -4,9 +4,10 @@ use crate::text::put_field;
 use crate::text::put_output;
 ghost use mathlib.Core.Path.{_≡_};
 ghost use Prim.Native.Nat.{_≤_};
+ghost use mathlib.Core.List.{_++_};
 ghost use lib.ListN.{length};
-ghost use Rattle.lines.specs.Text.{laid};
-ghost use Rattle.lines.specs.Lines.{layerLine, windowLine, refusedLine, stopLine, endLine};
+ghost use Rattle.lines.specs.Text.{laid, field};
+ghost use Rattle.lines.specs.Lines.{newline, layerLine, windowLine, refusedLine, stopLine, endLine};
 
 // The longest line: a window with sixteen outputs has 7 + 20 + 16 * 9 + 1 bytes at most.
 pub const MOST_LINE: usize = 172;
@@ -51,16 +52,25 @@ pub fn refused_line(line: &mut [u8], number: u64) -> usize
     put(line, b, b" refused 13\n")
 }
 
+// A word of at most six letters, two numbers and a newline.
+fn word_and_two(line: &mut [u8], word: &[u8], one: u64, two: u64) -> usize
+    requires { ⌜ (172 ≤ length (now line)) × (length (now word) ≤ 6) ⌝ }
+    ensures { λ _. ⌜ now (line .exit) ≡ laid (now (line .entry)) 0 (now (word .entry) ++ (field one ++ (field two ++ newline))) ⌝ }
+    ensures { λ r. ⌜ (r ≡ length (now (word .entry) ++ (field one ++ (field two ++ newline)))) × (r ≤ 172) ⌝ }
+{
+    let a = put(line, 0, word);
+    let b = put_field(line, a, one);
+    let c = put_field(line, b, two);
+    put(line, c, b"\n")
+}
+
 // `stop`, the number that says no, the record's byte offset.
 pub fn stop_line(line: &mut [u8], no: u32, offset: u64) -> usize
     requires { ⌜ 172 ≤ length (now line) ⌝ }
     ensures { λ _. ⌜ now (line .exit) ≡ laid (now (line .entry)) 0 (stopLine no offset) ⌝ }
     ensures { λ r. ⌜ (r ≡ length (stopLine no offset)) × (r ≤ 172) ⌝ }
 {
-    let a = put(line, 0, b"stop");
-    let b = put_field(line, a, no as u64);
-    let c = put_field(line, b, offset);
-    put(line, c, b"\n")
+    word_and_two(line, b"stop", no as u64, offset)
 }
 
 // `end`, windows answered, windows refused.
@@ -69,8 +79,5 @@ pub fn end_line(line: &mut [u8], answered: u64, refused: u64) -> usize
     ensures { λ _. ⌜ now (line .exit) ≡ laid (now (line .entry)) 0 (endLine answered refused) ⌝ }
     ensures { λ r. ⌜ (r ≡ length (endLine answered refused)) × (r ≤ 172) ⌝ }
 {
-    let a = put(line, 0, b"end");
-    let b = put_field(line, a, answered);
-    let c = put_field(line, b, refused);
-    put(line, c, b"\n")
+    word_and_two(line, b"end", answered, refused)
 }

@@ -1,58 +1,22 @@
 -- `whole::end_line` meets its contract. Assumes nothing.
-use mathlib.Core.List.{[], _∷_, append-assoc}
-use denote.Ref.{now}
-use native.Mathlib.Omega.{arith}
-use Rattle.lines.specs.Lines.{newline, endLine}
-use Rattle.lines.specs.Text.{field}
-use Rattle.lines.proofs.Laid.{Written, first, next, named}
 use borrow.Author.Needs.{needs}
+use Rattle.lines.specs.Lines.{endLine}
 use Rattle.lines.proofs.whole.end_line.Statement.{statement}
 use Rattle.lines.proofs.whole.end_line.Tie as tie
 
-slice-aggregate-put : tie.Need-slice-aggregate-put
-slice-aggregate-put c = search needs
+slice-aggregate-word-and-two : tie.Need-slice-aggregate-word-and-two
+slice-aggregate-word-and-two c = search needs
 
-put-requires : tie.Need-put-requires
-put-requires c κs = search needs
-
-put-field-requires : tie.Need-put-field-requires
-put-field-requires c κs = search needs
-
-put-field-requires-2 : tie.Need-put-field-requires-2
-put-field-requires-2 c κs = search needs
-
-slice-aggregate-put-2 : tie.Need-slice-aggregate-put-2
-slice-aggregate-put-2 c = search needs
-
-put-requires-2 : tie.Need-put-requires-2
-put-requires-2 c κs = search needs
+word-and-two-requires : tie.Need-word-and-two-requires
+word-and-two-requires c κs = search needs
 
 same-length : tie.Need-same-length
 same-length c = search needs
 
 returns : tie.Need-returns
 unfolding endLine
-returns c =
-    let p = c .before .before in
-    let q = p .before .before .before .before .before in
-    let r = q .before .before .before .before in
-    let s = r .before .before .before .before in
-    let args = s .before .before .before .before .args in
-    let word = first (now (args .line)) (101 ∷ 110 ∷ 100 ∷ []) (s .put .ensures .0) (s .put .ensures .1) in
-    let one = next (field (args .answered)) word (r .put-field .ensures .0) (r .put-field .ensures .1 .0) in
-    let two = next (field (args .refused)) one (q .put-field2 .ensures .0) (q .put-field2 .ensures .1 .0) in
-    let whole : Written (now (args .line)) (endLine (args .answered) (args .refused)) (p .put2 .last .0) (p .put2 .result) = named (simp append-assoc) (next newline two (p .put2 .ensures .0) (p .put2 .ensures .1)) in
-    (whole .holds, (whole .ends, omega (arith, p .put2 .ensures .1, q .put-field2 .ensures .1 .1, r .put-field .ensures .1 .1, s .put .ensures .1)))
+returns c = c .before .before .word-and-two .ensures
 
 pub end-line-spec : {M : Type 1} → statement M
 end-line-spec =
-    tie.close
-    (tie.spec
-    slice-aggregate-put
-    put-requires
-    put-field-requires
-    put-field-requires-2
-    slice-aggregate-put-2
-    put-requires-2
-    same-length
-    returns)
+    tie.close (tie.spec slice-aggregate-word-and-two word-and-two-requires same-length returns)
