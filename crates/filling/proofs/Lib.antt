@@ -1,4 +1,5 @@
 -- What `fillin` answers: outputs through the stepped layer.
 pub mod Rows
-pub mod Never
 pub mod RecordByRecord
+pub mod Never
+pub mod Replies

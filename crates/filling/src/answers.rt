@@ -1,5 +1,5 @@
 // The answer to one record.
-use crate::outputs::fill_outputs;
+use crate::outputs::window_outputs;
 use crate::state::Reply;
 use crate::state::State;
 use records::Item;
@@ -75,15 +75,14 @@ fn refuse_window(st: State, size: usize, line: &mut [u8]) -> Reply
     requires { ⌜ (172 ≤ length (now line)) × (st .offset + size < 2 ^ 64) × (st .answered + st .refused + 1 < 2 ^ 64) ⌝ }
     ensures { λ r. ⌜ Replied (respond (warmUp (st .offset + size)) [] st []) r (now (line .entry)) (now (line .exit)) ⌝ }
 {
-    let refused = st.refused + 1;
-    let length = lines::refused_line(line, st.answered + refused);
+    let length = lines::refused_line(line, st.answered + st.refused + 1);
     let l = st.layer;
     let state = State {
         layer: l,
         weight_bytes: st.weight_bytes,
         offset: offset_behind(st, size),
         answered: st.answered,
-        refused,
+        refused: st.refused + 1,
     };
     Reply {
         state,
@@ -99,22 +98,18 @@ fn answer_window(st: State, size: usize, payload: &[u8], weights: &[u8], line: &
     ensures { λ r. ⌜ Replied (respond (window (st .offset + size)) (now (payload .entry)) st (now (weights .entry))) r (now (line .entry)) (now (line .exit)) ⌝ }
 {
     let l = st.layer;
-    let inputs = l.in_feat;
     let rows = l.out_feat;
-    let mut x = [0.0f32; records::MOST_IN];
     let mut y = [0.0f32; records::MOST_OUT];
-    records::readings(payload, &mut x[..inputs]);
-    let filled = fill_outputs(l, weights, &x[..inputs], &mut y);
+    let filled = window_outputs(l, weights, payload, &mut y);
     if let Outcome::Refused(no) = filled {
         return stop(st, no, line);
     }
-    let answered = st.answered + 1;
-    let length = lines::window_line(line, answered + st.refused, &y[..rows]);
+    let length = lines::window_line(line, st.answered + st.refused + 1, &y[..rows]);
     let state = State {
         layer: l,
         weight_bytes: st.weight_bytes,
         offset: offset_behind(st, size),
-        answered,
+        answered: st.answered + 1,
         refused: st.refused,
     };
     Reply {

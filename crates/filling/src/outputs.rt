@@ -3,7 +3,7 @@ use refusals::Outcome;
 use stepped::Layer;
 use stepped::Progress;
 ghost use mathlib.Core.Path.{_≡_};
-ghost use Prim.Native.Nat.{_≤_};
+ghost use Prim.Native.Nat.{_*_, _≤_};
 ghost use lib.ListN.{length};
 ghost use Rattle.refusals.specs.Said.{outcomeSays, done};
 ghost use Rattle.refusals.specs.Refusals.{none};
@@ -12,6 +12,7 @@ ghost use Rattle.stepped.specs.Layer.{openOf};
 ghost use Rattle.stepped.specs.Refusals.{openNo, workNo};
 ghost use Rattle.stepped.specs.Says.{rowMet};
 ghost use Rattle.stepped.specs.History.{inOneGo};
+ghost use Rattle.filling.specs.Answers.{readingsIn};
 
 // A slot and a mark for each row: a layer record has at most 16 rows, of one chunk each.
 const MOST_PIECES: usize = 16;
@@ -33,7 +34,7 @@ fn close_rows(l: Layer, slots: &[f32], marks: &[u8], y: &mut [f32]) -> Outcome
 }
 
 // The outputs of a layer of at most 16 pieces: it is opened, run to its end and closed.
-pub(crate) fn fill_outputs(l: Layer, w: &[u8], x: &[f32], y: &mut [f32]) -> Outcome
+fn fill_outputs(l: Layer, w: &[u8], x: &[f32], y: &mut [f32]) -> Outcome
     requires { ⌜ (workNo l (length (now w)) (length (now x)) 16 16 ≡ none) × (l .«out_feat» ≤ length (now y)) ⌝ }
     ensures { λ r. ⌜ outcomeSays r ≡ done ⌝ }
     ensures { λ _. ⌜ now (y .exit) ≡ filled (inOneGo l (now (w .entry)) (now (x .entry))) (now (y .entry)) (l .«out_feat») ⌝ }
@@ -49,4 +50,23 @@ pub(crate) fn fill_outputs(l: Layer, w: &[u8], x: &[f32], y: &mut [f32]) -> Outc
         return Outcome::Refused(no);
     }
     close_rows(l, &slots, &marks, y)
+}
+
+// Room for a window's readings.
+fn readings_room() -> [f32; records::MOST_IN]
+    ensures { λ r. ⌜ 2048 ≡ length r ⌝ }
+{
+    [0.0f32; records::MOST_IN]
+}
+
+// The outputs of a layer for the window with this payload.
+pub(crate) fn window_outputs(l: Layer, w: &[u8], payload: &[u8], y: &mut [f32]) -> Outcome
+    requires { ⌜ (workNo l (length (now w)) (l .«in_feat») 16 16 ≡ none) × (l .«in_feat» ≤ 2048) × (length (now payload) ≡ l .«in_feat» * 4) × (l .«out_feat» ≤ length (now y)) ⌝ }
+    ensures { λ r. ⌜ outcomeSays r ≡ done ⌝ }
+    ensures { λ _. ⌜ now (y .exit) ≡ filled (inOneGo l (now (w .entry)) (readingsIn (now (payload .entry)) l)) (now (y .entry)) (l .«out_feat») ⌝ }
+{
+    let inputs = l.in_feat;
+    let mut x = readings_room();
+    records::readings(payload, &mut x[..inputs]);
+    fill_outputs(l, w, &x[..inputs], y)
 }
