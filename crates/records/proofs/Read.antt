@@ -9,12 +9,12 @@ use borrow.Author.Tests.{eqb-true, eqb-false, not-false}
 use lib.Dec.{eqb, lit<}
 use lib.ListN.{length}
 use Rattle.refusals.specs.Refusals.{given}
-use Rattle.refusals.proofs.Laws.{given-none}
+use Rattle.refusals.proofs.Laws.{given-none, else-none}
 use Rattle.layouts.specs.Formats.{knownFormat, formatOf}
 use Rattle.layouts.specs.declared.format.Format.the-variants.{OfK}
 use Rattle.layouts.proofs.Sizes.{sizes}
 use Rattle.records.specs.Frame.{isWhole, nextAt, kindAt, payloadAt}
-use Rattle.records.specs.Kinds.{formatIn, inFeatIn, outFeatIn, weightBytes, layerNo, windowNo}
+use Rattle.records.specs.Kinds.{formatIn, inFeatIn, outFeatIn, weightBytes, sizesNo, layerNo, windowNo}
 use Rattle.records.specs.Found.{Found, ended, layer, window, warmUp, refused, layerFound, windowFound, recordFound, foundAt}
 use Rattle.records.proofs.Whole.{whole}
 use Rattle.records.proofs.UpTo.{up-to}
@@ -89,14 +89,34 @@ pub record LayerRead (s : List ℕ) (i format inFeat outFeat next : ℕ) : Type 
   pub inside : next ≤ length s
   pub onward : i + 6 ≤ next
 
+-- what sizes are whose checks gave no number
+pub record Sized (inFeat outFeat : ℕ) : Type 0 where
+  pub in-some : 1 ≤ inFeat
+  pub in-most : inFeat ≤ 2048
+  pub out-some : 1 ≤ outFeat
+  pub out-most : outFeat ≤ 16
+  pub blocks : inFeat % 256 ≡ 0
+
+pub sizes-in : (inFeat outFeat : ℕ) → sizesNo inFeat outFeat ≡ 0 → Sized inFeat outFeat
+unfolding sizesNo
+sizes-in inFeat outFeat e =
+    let a = given-none 6 _ _ (lit< tt) e in
+    let b = given-none 6 _ _ (lit< tt) (a .1) in
+    let c = given-none 2 _ _ (lit< tt) (b .1) in
+    let inputs = up-to 2048 _ (not-false _ (a .0)) in
+    let outputs = up-to 16 _ (not-false _ (b .0)) in
+    record {
+      in-some = inputs .0;
+      in-most = inputs .1;
+      out-some = outputs .0;
+      out-most = outputs .1;
+      blocks = eqb-true _ _ (not-false _ (c .0));
+    }
+
 -- what a payload of a layer is whose checks gave no number
 pub record LayerHead (p : List ℕ) : Type 0 where
   pub known : knownFormat (formatIn p) ≡ true
-  pub in-some : 1 ≤ inFeatIn p
-  pub in-most : inFeatIn p ≤ 2048
-  pub out-some : 1 ≤ outFeatIn p
-  pub out-most : outFeatIn p ≤ 16
-  pub blocks : inFeatIn p % 256 ≡ 0
+  pub sizes : Sized (inFeatIn p) (outFeatIn p)
   pub sized : length p ≡ 9 + weightBytes (formatIn p) (inFeatIn p) (outFeatIn p)
 
 pub layer-head : (p : List ℕ) → layerNo p ≡ 0 → LayerHead p
@@ -104,21 +124,9 @@ unfolding layerNo
 layer-head p e =
     let a = given-none 11 _ _ (lit< tt) e in
     let b = given-none 12 _ _ (lit< tt) (a .1) in
-    let c = given-none 6 _ _ (lit< tt) (b .1) in
-    let d = given-none 6 _ _ (lit< tt) (c .1) in
-    let f = given-none 2 _ _ (lit< tt) (d .1) in
-    let g = given-none 11 _ _ (lit< tt) (f .1) in
-    let inputs = up-to 2048 _ (not-false _ (c .0)) in
-    let outputs = up-to 16 _ (not-false _ (d .0)) in
-    record {
-      known = not-false _ (b .0);
-      in-some = inputs .0;
-      in-most = inputs .1;
-      out-some = outputs .0;
-      out-most = outputs .1;
-      blocks = eqb-true _ _ (not-false _ (f .0));
-      sized = eqb-true _ _ (not-false _ (g .0));
-    }
+    let c = else-none _ _ (b .1) in
+    let d = given-none 11 _ _ (lit< tt) (c .1) in
+    record { known = not-false _ (b .0); sizes = sizes-in _ _ (c .0); sized = eqb-true _ _ (not-false _ (d .0)) }
 
 -- 16 rows of 8 blocks of 210 bytes at most
 pub few-weights : (format inFeat outFeat : ℕ) → inFeat ≤ 2048 → outFeat ≤ 16 → weightBytes format inFeat outFeat ≤ 26880
@@ -163,17 +171,16 @@ layer-read s i latest format inFeat outFeat next e =
     let o = layer-from (layerNo p) p (nextAt s i) format inFeat outFeat next refl (l .1) in
     let h = layer-head p (o .no-number) in
     let b = behind-record s i next (r .0) (sym (o .its-next)) in
-    let in-most = rw (o .its-inputs) at (h .in-most) in
-    let out-most = rw (o .its-outputs) at (h .out-most) in
+    let z = rw (o .its-inputs, o .its-outputs) at (h .sizes) in
     record {
       known = rw (o .its-format) at (h .known);
-      in-some = rw (o .its-inputs) at (h .in-some);
-      in-most = in-most;
-      out-some = rw (o .its-outputs) at (h .out-some);
-      out-most = out-most;
-      blocks = rw (o .its-inputs) at (h .blocks);
+      in-some = z .in-some;
+      in-most = z .in-most;
+      out-some = z .out-some;
+      out-most = z .out-most;
+      blocks = z .blocks;
       sized = rw (o .its-format, o .its-inputs, o .its-outputs) at (h .sized);
-      few = few-weights format inFeat outFeat in-most out-most;
+      few = few-weights format inFeat outFeat (z .in-most) (z .out-most);
       behind = b .behind;
       inside = b .inside;
       onward = b .onward;

@@ -10,16 +10,15 @@ pub up-to : (most n : ℕ) → upTo most n ≡ true → (1 ≤ n) × (n ≤ most
 unfolding upTo
 up-to most n e = let h = both _ _ e in (leb-true _ _ (h .0), leb-true _ _ (h .1))
 
--- the number that the code read, n, is the field m
-module _ (most n m : ℕ) (e : n ≡ m) where
-  pub below : n < 1 → not (upTo most m) ≡ true
+module _ (most n : ℕ) where
+  pub below : n < 1 → not (upTo most n) ≡ true
   unfolding upTo
-  below h = simp (← e, lt-leb _ _ h)
+  below h = simp (lt-leb _ _ h)
 
-  pub above : most < n → not (upTo most m) ≡ true
+  pub above : most < n → not (upTo most n) ≡ true
   unfolding upTo
-  above h = simp (← e, lt-leb _ _ h, and-false)
+  above h = simp (lt-leb _ _ h, and-false)
 
-  pub among : 1 ≤ n → n ≤ most → not (upTo most m) ≡ false
+  pub among : 1 ≤ n → n ≤ most → not (upTo most n) ≡ false
   unfolding upTo
-  among h k = simp (← e, le-leb _ _ h, le-leb _ _ k)
+  among h k = simp (le-leb _ _ h, le-leb _ _ k)

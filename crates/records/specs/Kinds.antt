@@ -5,7 +5,7 @@ use mathlib.Core.List.{List}
 use lib.Dec.{leb, ltb, eqb}
 use lib.ListN.{length, getD}
 use lib.Ieee.{Float, binary32, ofBits}
-use Rattle.refusals.specs.Refusals.{none, given}
+use Rattle.refusals.specs.Refusals.{none, given, orElse}
 use Rattle.numbers.specs.Fields.{le32}
 use Rattle.layouts.specs.Formats.{knownFormat, formatOf}
 use Rattle.shapes.specs.Shapes.{rowBytes}
@@ -29,16 +29,22 @@ upTo most n = leb 1 n && leb n most
 unfoldable pub weightBytes : (format inFeat outFeat : ℕ) → ℕ
 weightBytes format inFeat outFeat = outFeat * rowBytes (formatOf format) inFeat
 
+-- sizes out of range 6; multiple of 256, 2
+unfoldable pub sizesNo : (inFeat outFeat : ℕ) → ℕ
+sizesNo inFeat outFeat =
+    given 6 (not (upTo 2048 inFeat))
+    (given 6 (not (upTo 16 outFeat))
+    (given 2 (not (eqb (inFeat % 256) 0))
+    none))
+
 -- short layer head 11; format 12; sizes out of range 6; multiple of 256, 2; weight length 11
 unfoldable pub layerNo : List ℕ → ℕ
 layerNo p =
     given 11 (ltb (length p) 9)
     (given 12 (not (knownFormat (formatIn p)))
-    (given 6 (not (upTo 2048 (inFeatIn p)))
-    (given 6 (not (upTo 16 (outFeatIn p)))
-    (given 2 (not (eqb (inFeatIn p % 256) 0))
+    (orElse (sizesNo (inFeatIn p) (outFeatIn p))
     (given 11 (not (eqb (length p) (9 + weightBytes (formatIn p) (inFeatIn p) (outFeatIn p))))
-    none)))))
+    none)))
 
 -- ---- Kind 2, window: in_feat f32 values for the latest layer
 

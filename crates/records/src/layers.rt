@@ -1,8 +1,11 @@
 // Kind 1, a layer: format byte, u32 in_feat, u32 out_feat, then exactly the weights.
 use crate::fields::u32_at;
 ghost use mathlib.Core.Path.{_≡_};
+ghost use mathlib.Core.Bool.{true};
+ghost use Prim.Native.Nat.{_≤_};
 ghost use lib.ListN.{drop};
-ghost use Rattle.records.specs.Kinds.{layerNo};
+ghost use Rattle.layouts.specs.Formats.{knownFormat};
+ghost use Rattle.records.specs.Kinds.{weightBytes, sizesNo, layerNo};
 
 // The bytes before a layer's weights.
 const HEAD: usize = 9;
@@ -21,6 +24,36 @@ pub fn weights(p: &[u8]) -> &[u8]
     if p.len() < HEAD { &p[..0] } else { &p[HEAD..] }
 }
 
+// Why a layer's sizes are refused; 0 where they are not.
+fn sizes_no(in_feat: usize, out_feat: usize) -> u32
+    ensures { λ r. ⌜ r ≡ sizesNo «in_feat» «out_feat» ⌝ }
+{
+    if in_feat < 1 {
+        return refusals::TOO_LARGE;
+    }
+    if in_feat > MOST_IN {
+        return refusals::TOO_LARGE;
+    }
+    if out_feat < 1 {
+        return refusals::TOO_LARGE;
+    }
+    if out_feat > MOST_OUT {
+        return refusals::TOO_LARGE;
+    }
+    if in_feat % 256 != 0 {
+        return refusals::NOT_A_MULTIPLE;
+    }
+    0
+}
+
+// The bytes of a layer's weights.
+fn weight_bytes(format: u8, in_feat: usize, out_feat: usize) -> usize
+    requires { ⌜ (knownFormat format ≡ true) × («in_feat» ≤ 2048) × («out_feat» ≤ 16) ⌝ }
+    ensures { λ r. ⌜ r ≡ weightBytes format «in_feat» «out_feat» ⌝ }
+{
+    out_feat * shapes::row_bytes(layouts::format_of(format), in_feat)
+}
+
 // Why a layer's payload is refused; 0 where it is not.
 pub(crate) fn layer_no(p: &[u8]) -> u32
     ensures { λ r. ⌜ r ≡ layerNo (now (p .entry)) ⌝ }
@@ -33,24 +66,12 @@ pub(crate) fn layer_no(p: &[u8]) -> u32
         return refusals::UNKNOWN;
     }
     let in_feat = u32_at(p, 1);
-    if in_feat < 1 {
-        return refusals::TOO_LARGE;
-    }
-    if in_feat > MOST_IN {
-        return refusals::TOO_LARGE;
-    }
     let out_feat = u32_at(p, 5);
-    if out_feat < 1 {
-        return refusals::TOO_LARGE;
+    let no = sizes_no(in_feat, out_feat);
+    if no != 0 {
+        return no;
     }
-    if out_feat > MOST_OUT {
-        return refusals::TOO_LARGE;
-    }
-    if in_feat % 256 != 0 {
-        return refusals::NOT_A_MULTIPLE;
-    }
-    let need = out_feat * shapes::row_bytes(layouts::format_of(format), in_feat);
-    if p.len() - HEAD != need {
+    if p.len() - HEAD != weight_bytes(format, in_feat, out_feat) {
         return refusals::MALFORMED;
     }
     0

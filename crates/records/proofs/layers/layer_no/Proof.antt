@@ -1,20 +1,17 @@
--- `layers::layer_no` meets its contract: the checks in their order. Assumes nothing.
-use mathlib.Core.Path.{_≡_, refl, sym, ap, _∙_}
+-- `layers::layer_no` meets its contract: the head, the format, the sizes, the weights. Assumes nothing.
+use mathlib.Core.Path.{_≡_, sym, ap, _∙_}
 use mathlib.Core.Bool.{true, false, not}
-use Prim.Native.Nat.{ℕ, _+_, _-_, _*_, _%_, _≤_}
+use Prim.Native.Nat.{ℕ, _+_, _-_, _≤_}
 use native.Mathlib.Omega.{arith}
 use borrow.Author.Needs.{needs}
 use borrow.Author.Tests.{lt-ltb, le-ltb, eq-eqb, ne-eqb, not-false}
 use denote.Ref.{now}
 use lib.Dec.{ltb, eqb}
 use lib.ListN.{length}
-use Rattle.refusals.proofs.Laws.{given-yes, given-no}
-use Rattle.layouts.specs.Formats.{knownFormat, formatOf}
-use Rattle.layouts.specs.declared.format.FormatK.{FormatK}
-use Rattle.shapes.specs.Shapes.{rowBytes}
-use Rattle.records.specs.Kinds.{formatIn, inFeatIn, outFeatIn, upTo, weightBytes, layerNo}
-use Rattle.records.proofs.UpTo.{below, above, among}
-use Rattle.records.proofs.Read.{few-weights}
+use Rattle.refusals.proofs.Laws.{given-yes, given-no, else-first, else-later}
+use Rattle.layouts.specs.Formats.{knownFormat}
+use Rattle.records.specs.Kinds.{formatIn, inFeatIn, outFeatIn, weightBytes, sizesNo, layerNo}
+use Rattle.records.proofs.Read.{Sized, sizes-in}
 use Rattle.records.proofs.layers.layer_no.Statement.{statement}
 use Rattle.records.proofs.layers.layer_no.Tie as tie
 
@@ -44,110 +41,51 @@ returns-2 c =
 known : (c : tie.Else2) → knownFormat (formatIn (now (c .before .before .before .before .before .args .p))) ≡ true
 known c = sym (c .before .known-format .ensures) ∙ not-false _ (c .if2 .left)
 
--- ---- what the later checks give, by what the code has of the payload p
+-- ---- the sizes
 
 u32-at-requires : tie.Need-u32-at-requires
 u32-at-requires c κs = search needs
 
-returns-3 : tie.Need-returns-3
-unfolding layerNo
-returns-3 c =
-    let e = c .before .before in
-    sym (given-no 11 _ _ (head (e .before .before .before)) ∙ given-no 12 _ _ (ap not (known e)) ∙ given-yes 6 _ _ (below 2048 _ _ (c .before .u32-at .ensures .0) (c .if3 .taken)))
-
-returns-4 : tie.Need-returns-4
-unfolding layerNo
-returns-4 c =
-    let u = c .before .before in
-    let e = u .before in
-    sym (given-no 11 _ _ (head (e .before .before .before)) ∙ given-no 12 _ _ (ap not (known e)) ∙ given-yes 6 _ _ (above 2048 _ _ (u .u32-at .ensures .0) (c .if4 .taken)))
-
--- the inputs are in range
-inputs : (c : tie.Else4) → not (upTo 2048 (inFeatIn (now (c .before .before .before .before .before .before .before .before .args .p)))) ≡ false
-inputs c = among 2048 _ _ (c .before .before .u32-at .ensures .0) (c .before .if3 .left) (c .if4 .left)
-
 u32-at-requires-2 : tie.Need-u32-at-requires-2
 u32-at-requires-2 c κs = search needs
 
-returns-5 : tie.Need-returns-5
+sizes-no-requires : tie.Need-sizes-no-requires
+sizes-no-requires c κs = search needs
+
+-- the sizes that the code read are those of the payload
+same-sizes : (n m inFeat outFeat : ℕ) → n ≡ inFeat → m ≡ outFeat → sizesNo n m ≡ sizesNo inFeat outFeat
+same-sizes n m inFeat outFeat e f = rw (e, f)
+
+sizes : (c : tie.After-sizes-no) → let p = now (c .before .before .before .before .before .before .before .before .args .p) in c .sizes-no .result ≡ sizesNo (inFeatIn p) (outFeatIn p)
+sizes c = c .sizes-no .ensures ∙ same-sizes _ _ _ _ (c .before .before .u32-at .ensures .0) (c .before .u32-at2 .ensures .0)
+
+returns-3 : tie.Need-returns-3
 unfolding layerNo
-returns-5 c =
-    let i = c .before .before in
-    let e = i .before .before .before in
-    sym
-    (given-no 11 _ _ (head (e .before .before .before))
-    ∙ given-no 12 _ _ (ap not (known e))
-    ∙ given-no 6 _ _ (inputs i)
-    ∙ given-yes 6 _ _ (below 16 _ _ (c .before .u32-at2 .ensures .0) (c .if5 .taken)))
-
-returns-6 : tie.Need-returns-6
-unfolding layerNo
-returns-6 c =
-    let u = c .before .before in
-    let i = u .before in
-    let e = i .before .before .before in
-    sym
-    (given-no 11 _ _ (head (e .before .before .before))
-    ∙ given-no 12 _ _ (ap not (known e))
-    ∙ given-no 6 _ _ (inputs i)
-    ∙ given-yes 6 _ _ (above 16 _ _ (u .u32-at2 .ensures .0) (c .if6 .taken)))
-
--- the outputs are in range
-outputs : (c : tie.Else6) → not (upTo 16 (outFeatIn (now (c .before .before .before .before .before .before .before .before .before .before .before .args .p)))) ≡ false
-outputs c = among 16 _ _ (c .before .before .u32-at2 .ensures .0) (c .before .if5 .left) (c .if6 .left)
-
--- the number that the code read, n, is the field m
-uneven : (n m : ℕ) → n ≡ m → (n % 256 ≡ 0 → ⊥) → not (eqb (m % 256) 0) ≡ true
-uneven n m e h = simp (← e, ne-eqb _ _ h)
-
-even : (n m : ℕ) → n ≡ m → n % 256 ≡ 0 → not (eqb (m % 256) 0) ≡ false
-even n m e h = simp (← e, eq-eqb _ _ h)
-
-returns-7 : tie.Need-returns-7
-unfolding layerNo
-returns-7 c =
-    let o = c .before in
-    let i = o .before .before .before in
-    let e = i .before .before .before in
-    sym
-    (given-no 11 _ _ (head (e .before .before .before))
-    ∙ given-no 12 _ _ (ap not (known e))
-    ∙ given-no 6 _ _ (inputs i)
-    ∙ given-no 6 _ _ (outputs o)
-    ∙ given-yes 2 _ _ (uneven _ _ (i .before .before .u32-at .ensures .0) (c .if7 .taken)))
-
-format-of-requires : tie.Need-format-of-requires
-format-of-requires c κs = known (c .before .before .before .before .before .before .before)
-
-row-bytes-requires : tie.Need-row-bytes-requires
-row-bytes-requires c κs = omega (arith, c .before .before .before .before .before .if4 .left)
+returns-3 c =
+    let z = c .before in
+    let k = z .before .before .before in
+    let e = sizes z in
+    e ∙ sym (given-no 11 _ _ (head (k .before .before .before)) ∙ given-no 12 _ _ (ap not (known k)) ∙ else-first _ _ (λ n. c .if3 .taken (e ∙ n)))
 
 -- ---- the weights
 
-product : (format : ℕ) (f : FormatK) (row n m out o : ℕ) → f ≡ formatOf format → n ≡ m → out ≡ o → row ≡ rowBytes f n → out * row ≡ weightBytes format m o
-unfolding weightBytes
-product format f row n m out o F N O R = rw (R, O, F, N)
+sub-if4 : tie.Need-sub-if4
+sub-if4 c = search needs
 
-needed : (c : tie.After-row-bytes) → let o = c .before .before .before in
-    let i = o .before .before .before in
-    let p = now (i .before .before .before .before .before .before .before .before .args .p) in
-    o .before .before .u32-at2 .result * c .row-bytes .result ≡ weightBytes (formatIn p) (inFeatIn p) (outFeatIn p)
-needed c =
-    let o = c .before .before .before in
-    let i = o .before .before .before in
-    product _ _ _ _ _ _ _ (c .before .format-of .ensures) (i .before .before .u32-at .ensures .0) (o .before .before .u32-at2 .ensures .0) (c .row-bytes .ensures)
+sized : (c : tie.Else3) → Sized (c .before .before .before .u32-at .result) (c .before .before .u32-at2 .result)
+sized c = sizes-in _ _ (sym (c .before .sizes-no .ensures) ∙ c .if3 .left)
 
-mul-need : tie.Need-mul-need
-mul-need c =
-    let o = c .before .before .before in
-    let i = o .before .before .before in
-    let n = i .before .before .u32-at .result in
-    let out = o .before .before .u32-at2 .result in
-    let byte = formatIn (now (i .before .before .before .before .before .before .before .before .args .p)) in
-    omega (arith, product byte _ _ n n out out (c .before .format-of .ensures) refl refl (c .row-bytes .ensures), few-weights byte n out (i .if4 .left) (o .if6 .left))
+weight-bytes-requires : tie.Need-weight-bytes-requires
+weight-bytes-requires c κs = (known (c .before .before .before .before), sized c .in-most, sized c .out-most)
 
-sub-if8 : tie.Need-sub-if8
-sub-if8 c = search needs
+same-bytes : (format n m inFeat outFeat : ℕ) → n ≡ inFeat → m ≡ outFeat → weightBytes format n m ≡ weightBytes format inFeat outFeat
+same-bytes format n m inFeat outFeat e f = rw (e, f)
+
+bytes : (c : tie.After-weight-bytes) → let p = now (c .before .before .before .before .before .before .before .before .before .before .args .p) in
+    c .weight-bytes .result ≡ weightBytes (formatIn p) (inFeatIn p) (outFeatIn p)
+bytes c =
+    let z = c .before .before in
+    c .weight-bytes .ensures ∙ same-bytes _ _ _ _ _ (z .before .before .u32-at .ensures .0) (z .before .u32-at2 .ensures .0)
 
 -- so many weights follow the head, or not
 unlike : (size need want : ℕ) → 9 ≤ size → need ≡ want → (size - 9 ≡ need → ⊥) → not (eqb size (9 + want)) ≡ true
@@ -156,39 +94,31 @@ unlike size need want h e n = ap not (ne-eqb size (9 + want) (λ (z : size ≡ 9
 alike : (size need want : ℕ) → 9 ≤ size → need ≡ want → size - 9 ≡ need → not (eqb size (9 + want)) ≡ false
 alike size need want h e n = ap not (eq-eqb size (9 + want) (omega arith))
 
-returns-8 : tie.Need-returns-8
+returns-4 : tie.Need-returns-4
 unfolding layerNo
-returns-8 c =
+returns-4 c =
     let w = c .before in
-    let d = w .before .before in
-    let o = d .before in
-    let i = o .before .before .before in
-    let e = i .before .before .before in
-    let a = e .before .before .before in
+    let z = w .before .before in
+    let k = z .before .before .before in
+    let a = k .before .before .before in
     sym
     (given-no 11 _ _ (head a)
-    ∙ given-no 12 _ _ (ap not (known e))
-    ∙ given-no 6 _ _ (inputs i)
-    ∙ given-no 6 _ _ (outputs o)
-    ∙ given-no 2 _ _ (even _ _ (i .before .before .u32-at .ensures .0) (d .if7 .left))
-    ∙ given-yes 11 _ _ (unlike _ _ _ (a .if1 .left) (needed w) (c .if8 .taken)))
+    ∙ given-no 12 _ _ (ap not (known k))
+    ∙ else-later _ _ (sym (sizes z) ∙ w .before .if3 .left)
+    ∙ given-yes 11 _ _ (unlike _ _ _ (a .if1 .left) (bytes w) (c .if4 .taken)))
 
-returns-9 : tie.Need-returns-9
+returns-5 : tie.Need-returns-5
 unfolding layerNo
-returns-9 c =
+returns-5 c =
     let w = c .before in
-    let d = w .before .before in
-    let o = d .before in
-    let i = o .before .before .before in
-    let e = i .before .before .before in
-    let a = e .before .before .before in
+    let z = w .before .before in
+    let k = z .before .before .before in
+    let a = k .before .before .before in
     sym
     (given-no 11 _ _ (head a)
-    ∙ given-no 12 _ _ (ap not (known e))
-    ∙ given-no 6 _ _ (inputs i)
-    ∙ given-no 6 _ _ (outputs o)
-    ∙ given-no 2 _ _ (even _ _ (i .before .before .u32-at .ensures .0) (d .if7 .left))
-    ∙ given-no 11 _ _ (alike _ _ _ (a .if1 .left) (needed w) (c .if8 .left)))
+    ∙ given-no 12 _ _ (ap not (known k))
+    ∙ else-later _ _ (sym (sizes z) ∙ w .before .if3 .left)
+    ∙ given-no 11 _ _ (alike _ _ _ (a .if1 .left) (bytes w) (c .if4 .left)))
 
 pub layer-no-spec : {M : Type 1} → statement M
 layer-no-spec =
@@ -199,15 +129,10 @@ layer-no-spec =
     known-format-requires
     returns-2
     u32-at-requires
-    returns-3
-    returns-4
     u32-at-requires-2
-    returns-5
-    returns-6
-    returns-7
-    format-of-requires
-    row-bytes-requires
-    mul-need
-    sub-if8
-    returns-8
-    returns-9)
+    sizes-no-requires
+    returns-3
+    sub-if4
+    weight-bytes-requires
+    returns-4
+    returns-5)
