@@ -1,6 +1,6 @@
 -- From what one kind of record is answered with to what any record is. Assumes nothing.
 use Prim.Native.Nat.{ℕ, _+_, _≤_}
-use mathlib.Core.Path.{_≡_, refl, sym, ap, subst, _∙_}
+use mathlib.Core.Path.{_≡_, sym, ap, subst, _∙_}
 use mathlib.Core.List.{List, _++_}
 use native.Mathlib.Omega.{arith}
 use lib.ListN.{length, take, drop, length-append, take-append-drop}
@@ -13,7 +13,7 @@ use Rattle.filling.specs.declared.state.State.{State}
 use Rattle.filling.specs.declared.state.Reply.{Reply}
 use Rattle.filling.specs.Kept.{Held, Ready}
 use Rattle.filling.specs.Answers.{Response, respond, answerTo, Replied}
-use Rattle.filling.proofs.Holding.{kept-within, Carried, carried}
+use Rattle.filling.proofs.Holding.{kept-within, carried}
 
 -- a reply to one response is one to another that says the same
 pub replied-as : {r : Reply} {x y : List ℕ} (a b : Response) → a .text ≡ b .text → a .state ≡ b .state → a .over ≡ b .over → Replied a r x y → Replied b r x y
@@ -59,13 +59,18 @@ module _ (st : State) (s weights line : List ℕ) (ready : Ready st (length s) (
       let same = ap (λ (g : Found). respond (later (st .offset) g) (payloadAt s 0) st held) (sym e) in
       let p = subst (λ (a : Response). Replied a r line after) same q in
       let k = carried st held s (ready .held) in
-      let state = p .same-state in
-      (p,
-        (l ∙ ap (λ (a : Response). laid weights 0 (a .weights)) same,
-        (subst Held (sym state) (k .held),
-          omega (arith, ap (λ (z : State). z .offset) state, k .offset-in),
-          omega (arith, ap (λ (z : State). z .answered) state, ap (λ (z : State). z .refused) state, k .count-in),
-          fits)))
+      let state = p .same-state in (
+        p,
+        (
+          l ∙ ap (λ (a : Response). laid weights 0 (a .weights)) same,
+          (
+            subst Held (sym state) (k .held),
+            omega (arith, ap (λ (z : State). z .offset) state, k .offset-in),
+            omega (arith, ap (λ (z : State). z .answered) state, ap (λ (z : State). z .refused) state, k .count-in),
+            fits,
+          ),
+        ),
+      )
     where
       fits : r .length ≤ length after
       fits =

@@ -1,7 +1,7 @@
 -- The layer that is held is one that the stepped layer accepts, and every answer keeps it so. Assumes nothing.
-use Prim.Native.Nat.{ℕ, _+_, _-_, _*_, _/_, _%_, _≤_, _<_}
-use mathlib.Core.Path.{_≡_, refl, sym, ap, _∙_}
-use mathlib.Core.Bool.{true, not}
+use Prim.Native.Nat.{ℕ, _+_, _-_, _≤_}
+use mathlib.Core.Path.{_≡_, refl, ap, _∙_}
+use mathlib.Core.Bool.{not}
 use mathlib.Core.List.{List}
 use native.Mathlib.Nat.{le-refl, le-trans, mul-le-mul-left, mul-one}
 use native.Mathlib.Omega.{arith}
@@ -10,8 +10,6 @@ use lib.ListN.{length, drop, length-drop}
 use Rattle.refusals.specs.Refusals.{none}
 use Rattle.refusals.specs.Sizes.{mostIn, mostOut}
 use Rattle.refusals.proofs.Laws.{given-no, else-later}
-use Rattle.layouts.specs.Formats.{knownFormat}
-use Rattle.stepped.specs.declared.shape.Layer.{Layer}
 use Rattle.stepped.specs.Layer.{chunks, pieces, rowBytes, weightNeed}
 use Rattle.stepped.specs.Refusals.{shapeNo, roomNo, workNo}
 use Rattle.records.specs.Frame.{payloadAt}
@@ -19,7 +17,7 @@ use Rattle.records.specs.Kinds.{weightBytes}
 use Rattle.records.specs.Found.{Found, ended, layer, window, warmUp, refused, foundAt, later}
 use Rattle.records.proofs.Read.{few-weights, layer-read, window-read, warm-up-read}
 use Rattle.filling.specs.declared.state.State.{State}
-use Rattle.filling.specs.Kept.{layerOf, begun, Held}
+use Rattle.filling.specs.Kept.{layerOf, Held}
 use Rattle.filling.specs.Answers.{respond, answerTo}
 
 -- a layer of at most 2,048 readings has one chunk a row, and at most 16 pieces

@@ -1,5 +1,5 @@
 -- A layer that is opened, run to its end and closed row by row: each output is its row's dot in one go. Assumes nothing.
-use Prim.Native.Nat.{ℕ, zero, suc, _+_, _-_, _*_, _≤_, _<_, min}
+use Prim.Native.Nat.{ℕ, _+_, _-_, _*_, _≤_, _<_}
 use mathlib.Core.Path.{_≡_, refl, sym, ap, subst, _∙_}
 use mathlib.Core.List.{List, [], _∷_, _++_, List·Memᴰ, List·Memᴰ·head}
 use native.Mathlib.Nat.{le-refl, min-eq-right}
@@ -12,14 +12,14 @@ use lib.Ieee.{Float, nan}
 use Rattle.refusals.specs.Said.{Said, done}
 use Rattle.refusals.specs.Refusals.{none}
 use Rattle.refusals.proofs.Laws.{given-no, given-none, else-later, else-none, carried-done}
-use Rattle.memory.specs.Lists.{table, filled, part}
+use Rattle.memory.specs.Lists.{table, filled}
 use Rattle.memory.proofs.Filled.{table-ext, length-table}
 use Rattle.stepped.specs.declared.shape.Layer.{Layer}
 use Rattle.stepped.specs.Layer.{chunks, pieces, openCount, openOf, openInRow}
 use Rattle.stepped.specs.Refusals.{openNo, workNo, closeNo}
 use Rattle.stepped.specs.Says as said
 use Rattle.stepped.specs.Says.{RunSaid, openSays, runSays, rowMet, closeSays}
-use Rattle.stepped.specs.History.{inOneGo, Call, run, close, closedBy, call, calls, opened}
+use Rattle.stepped.specs.History.{inOneGo, run, close, closedBy, call, calls, opened}
 use Rattle.stepped.proofs.Shapes.{row-within, workable}
 use Rattle.stepped.proofs.Answers.{ran-done}
 use Rattle.stepped.proofs.Counts.{run-counts}

@@ -43,19 +43,19 @@ respond (layer format inFeat outFeat next) p st w = record {
   text = layerLine format inFeat outFeat;
   state = record { layer = layerOf format inFeat outFeat; «weight_bytes» = length (drop 9 p); offset = next; answered = st .answered; refused = st .refused };
   weights = drop 9 p;
-  over = false
+  over = false;
 }
 respond (window next) p st w = record {
   text = windowLine (windowNumber st) (outputsOf (st .layer) w (readingsIn p (st .layer)));
   state = record { layer = st .layer; «weight_bytes» = st .«weight_bytes»; offset = next; answered = st .answered + 1; refused = st .refused };
   weights = w;
-  over = false
+  over = false;
 }
 respond (warmUp next) p st w = record {
   text = refusedLine (windowNumber st);
   state = record { layer = st .layer; «weight_bytes» = st .«weight_bytes»; offset = next; answered = st .answered; refused = st .refused + 1 };
   weights = w;
-  over = false
+  over = false;
 }
 respond (refused num) p st w = record { text = stopLine num (st .offset); state = st; weights = w; over = true }
 

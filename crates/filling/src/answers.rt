@@ -49,7 +49,14 @@ fn offset_behind(st: State, size: usize) -> u64
 }
 
 // A layer: its weights are kept, and its line is `layer`.
-fn take_layer(st: State, l: Layer, size: usize, payload: &[u8], weights: &mut [u8], line: &mut [u8]) -> Reply
+fn take_layer(
+    st: State,
+    l: Layer,
+    size: usize,
+    payload: &[u8],
+    weights: &mut [u8],
+    line: &mut [u8],
+) -> Reply
     requires { ⌜ (172 ≤ length (now line)) × (length (drop 9 (now payload)) ≤ length (now weights)) × (st .offset + size < 2 ^ 64) ⌝ }
     ensures { λ r. ⌜ Replied (respond (layer (l .format) (l .«in_feat») (l .«out_feat») (st .offset + size)) (now (payload .entry)) st []) r (now (line .entry)) (now (line .exit)) ⌝ }
     ensures { λ _. ⌜ now (weights .exit) ≡ laid (now (weights .entry)) 0 (drop 9 (now (payload .entry))) ⌝ }
@@ -129,7 +136,12 @@ pub fn answer(st: State, record: &[u8], weights: &mut [u8], line: &mut [u8]) -> 
     let l = st.layer;
     match records::read_at(record, 0, l.in_feat) {
         Item::End => finish(st, line),
-        Item::Layer { format, in_feat, out_feat, next } => {
+        Item::Layer {
+            format,
+            in_feat,
+            out_feat,
+            next,
+        } => {
             let latest = Layer {
                 format,
                 in_feat,
@@ -139,7 +151,13 @@ pub fn answer(st: State, record: &[u8], weights: &mut [u8], line: &mut [u8]) -> 
         }
         Item::Window { next } => {
             let held = st.weight_bytes;
-            answer_window(st, next, records::payload(record, 0), &weights[..held], line)
+            answer_window(
+                st,
+                next,
+                records::payload(record, 0),
+                &weights[..held],
+                line,
+            )
         }
         Item::WarmUp { next } => refuse_window(st, next, line),
         Item::Refused(no) => stop(st, no, line),

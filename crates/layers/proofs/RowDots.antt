@@ -7,12 +7,10 @@ use native.Mathlib.Omega.{arith}
 use borrow.Author.Tests.{le-ltb, eq-eqb, ne-eqb}
 use lib.ListN.{length}
 use lib.Ieee.{Float}
-use Rattle.refusals.specs.Said.{value, done, refused, saidBy, outcomeSays}
+use Rattle.refusals.specs.Said.{value, refused, saidBy}
 use Rattle.refusals.specs.Sizes.{mostIn}
 use Rattle.refusals.specs.declared.Answer.{Answer}
 use Rattle.refusals.specs.declared.Answer.the-variants as answer
-use Rattle.refusals.specs.declared.Outcome.{Outcome}
-use Rattle.refusals.specs.declared.Outcome.the-variants as outcome
 use Rattle.layouts.specs.declared.format.FormatK.{FormatK}
 use Rattle.sums.specs.Tree.{tree, met}
 use Rattle.sums.specs.Lanes.{products}
@@ -32,12 +30,6 @@ value-of a u v s e = cc (sym (ap saidBy e) ∙ s)
 pub no-refusal : (a : Answer) (num : ℕ) (v : Float) → saidBy a ≡ value v → a ≡ answer.Refused num → ⊥
 no-refusal a num v s e =
     let clash : refused num ≡ value v = sym (ap saidBy e) ∙ s in
-    let z : _≡_ {A = ℕ} 0 1 = cc clash in
-    absurd (omega arith)
-
-pub never-refused : (a : Outcome) (num : ℕ) → outcomeSays a ≡ done → a ≡ outcome.Refused num → ⊥
-never-refused a num s e =
-    let clash : refused num ≡ done = sym (ap outcomeSays e) ∙ s in
     let z : _≡_ {A = ℕ} 0 1 = cc clash in
     absurd (omega arith)
 

@@ -1,9 +1,11 @@
 -- Laws of the refusals of a call that writes lent memory. Assumes nothing.
-use mathlib.Core.Path.{_≡_, refl}
+use mathlib.Core.Path.{_≡_, refl, sym, ap, _∙_}
 use mathlib.Core.Bool.{Bool, true, false}
 use Prim.Native.Nat.{ℕ, zero, suc, _<_}
 use native.Mathlib.Omega.{arith}
-use Rattle.refusals.specs.Said.{done, refused}
+use Rattle.refusals.specs.Said.{done, refused, outcomeSays}
+use Rattle.refusals.specs.declared.Outcome.{Outcome}
+use Rattle.refusals.specs.declared.Outcome.the-variants as outcome
 use Rattle.refusals.specs.Refusals.{given, orElse, carriedOut}
 
 -- a check that fails the call gives its number
@@ -55,3 +57,10 @@ pub carried-none : {A : Type 0} (num : ℕ) (new old : A) → carriedOut num new
 unfolding carriedOut
 carried-none zero new old e = refl
 carried-none (suc num) new old e = let z : _≡_ {A = ℕ} 0 1 = cc in absurd (omega arith)
+
+-- an outcome that says it is done is no refusal
+pub never-refused : (a : Outcome) (num : ℕ) → outcomeSays a ≡ done → a ≡ outcome.Refused num → ⊥
+never-refused a num s e =
+    let clash : refused num ≡ done = sym (ap outcomeSays e) ∙ s in
+    let z : _≡_ {A = ℕ} 0 1 = cc clash in
+    absurd (omega arith)

@@ -1,6 +1,6 @@
 -- `answers::answer` meets its contract: what was read says which line is written. Assumes nothing.
-use mathlib.Core.Path.{_≡_, refl, sym, ap, subst, _∙_}
-use Prim.Native.Nat.{ℕ, _+_, _≤_, _<_, _^_}
+use mathlib.Core.Path.{_≡_, refl, sym, ap, _∙_}
+use Prim.Native.Nat.{ℕ, _≤_}
 use native.Mathlib.Omega.{arith}
 use borrow.Author.Needs.{needs}
 use mathlib.Core.List.{List, []}
@@ -71,9 +71,10 @@ slice-aggregate-answer-window c = let t = c .before .before .before .before .bef
 answer-window-requires : tie.Need-answer-window-requires
 answer-window-requires c κs =
     let t = c .before .before .before .before .before .before .before .before .before .before .before in
-    let r = window-read _ 0 _ _ (found-window (c .before .before .before .before)) in
-    ((t .pre .held, t .pre .line-fits, length-take-le _ (t .args .weights .now) (held-fits (t .args .st) (t .args .«record» .now) (t .args .weights .now) (t .args .line .now) (t .pre))),
-      (ap length (c .before .before .payload2 .ensures) ∙ r .sized, omega (arith, r .inside, t .pre .offset-fits), t .pre .count-fits))
+    let r = window-read _ 0 _ _ (found-window (c .before .before .before .before)) in (
+      (t .pre .held, t .pre .line-fits, length-take-le _ (t .args .weights .now) (held-fits (t .args .st) (t .args .«record» .now) (t .args .weights .now) (t .args .line .now) (t .pre))),
+      (ap length (c .before .before .payload2 .ensures) ∙ r .sized, omega (arith, r .inside, t .pre .offset-fits), t .pre .count-fits),
+    )
 
 enum-known-next-2 : tie.Need-enum-known-next-2
 enum-known-next-2 c = search needs

@@ -2,14 +2,10 @@
 use mathlib.Core.Path.{_≡_, refl, sym, ap, _∙_}
 use native.Mathlib.Omega.{arith}
 use borrow.Author.Needs.{needs}
-use mathlib.Core.List.{List}
-use lib.ListN.{length, take, drop}
-use lib.Seq.{length-take-le, take-at}
-use lib.Ieee.{Float}
-use Rattle.filling.proofs.Never.{never-refused}
-use Rattle.memory.specs.Lists.{table}
+use lib.ListN.{length, take}
+use lib.Seq.{take-at}
+use Rattle.refusals.proofs.Laws.{never-refused}
 use Rattle.memory.proofs.Filled.{length-table}
-use Rattle.stepped.specs.History.{inOneGo}
 use Rattle.lines.specs.Text.{laid}
 use Rattle.lines.specs.Lines.{windowLine}
 use Rattle.filling.specs.Answers.{windowNumber, readingsIn, outputsOf}

@@ -28,13 +28,15 @@ returns : tie.Need-returns
 returns c =
     let line = c .before .before .before .layer-line in
     let copied = c .before .before .before .before .before .before .before .copy .ensures in
-    let weights = c .before .before .before .before .before .before .before .before .before .weights .ensures in
-    (record {
-      same-state = same-state _ _ _ _ _ _ _ (copied .0 ∙ ap length weights) (c .offset-behind .ensures);
-      same-length = line .ensures .1 .0;
-      same-over = refl;
-      same-line = line .ensures .0;
-    }, copied-front _ _ _ _ weights (copied .1))
+    let weights = c .before .before .before .before .before .before .before .before .before .weights .ensures in (
+      record {
+        same-state = same-state _ _ _ _ _ _ _ (copied .0 ∙ ap length weights) (c .offset-behind .ensures);
+        same-length = line .ensures .1 .0;
+        same-over = refl;
+        same-line = line .ensures .0;
+      },
+      copied-front _ _ _ _ weights (copied .1),
+    )
 
 pub take-layer-spec : {M : Type 1} → statement M
 take-layer-spec =

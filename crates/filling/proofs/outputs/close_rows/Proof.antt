@@ -1,17 +1,16 @@
 -- `outputs::close_rows` meets its contract: a row a turn. Assumes nothing.
-use mathlib.Core.Path.{_≡_, refl, sym, ap, _∙_}
-use Prim.Native.Nat.{ℕ, _+_, _-_, _≤_, _<_, zero-le}
-use native.Mathlib.Nat.{le-antisymm}
+use mathlib.Core.Path.{_≡_, refl, ap, _∙_}
+use Prim.Native.Nat.{_-_, _≤_, _<_, zero-le}
 use native.Mathlib.Omega.{arith}
 use borrow.Author.Needs.{needs}
 use mathlib.Core.List.{List}
 use lib.ListN.{length, set, length-set}
 use lib.Ieee.{Float, nan}
 use Rattle.refusals.specs.Said.{Said, done, outcomeSays}
-use Rattle.filling.proofs.Never.{never-refused}
+use Rattle.refusals.proofs.Laws.{never-refused}
 use Rattle.memory.specs.Lists.{filled}
 use Rattle.memory.proofs.Filled.{filled-none, filled-more}
-use Rattle.stepped.specs.Says.{rowMet, closeSays}
+use Rattle.stepped.specs.Says.{rowMet}
 use Rattle.filling.proofs.Rows.{closes}
 use Rattle.filling.proofs.outputs.close_rows.Statement.{statement}
 use Rattle.filling.proofs.outputs.close_rows.Tie as tie
@@ -73,10 +72,11 @@ loop-again c =
     let l = d .before .before .before .loop in
     let a = d .before .before .before .before .before .before .before .args in
     let within : l .row < length (a .y .now) = omega (arith, d .before .before .loop-test .taken, d .before .before .before .before .before .before .before .pre .2) in
-    let e = filled-on d in
-    (e ∙ ap (λ (ys : List Float). set ys (l .row) (rowMet (a .l) (a .slots .now) (l .row))) (l .inv .0) ∙ filled-more (rowMet (a .l) (a .slots .now)) (a .y .now) (l .row) nan within,
+    let e = filled-on d in (
+      e ∙ ap (λ (ys : List Float). set ys (l .row) (rowMet (a .l) (a .slots .now) (l .row))) (l .inv .0) ∙ filled-more (rowMet (a .l) (a .slots .now)) (a .y .now) (l .row) nan within,
       omega arith,
-      ap length e ∙ length-set (l .y) (l .row) _ ∙ l .inv .2)
+      ap length e ∙ length-set (l .y) (l .row) _ ∙ l .inv .2,
+    )
 
 same-length-2 : tie.Need-same-length-2 Inv-loop μ-loop
 same-length-2 c = c .before .loop .inv .2

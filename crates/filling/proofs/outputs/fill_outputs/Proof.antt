@@ -1,7 +1,6 @@
 -- `outputs::fill_outputs` meets its contract. Assumes nothing.
-use mathlib.Core.Path.{_≡_, refl, sym, ap, _∙_}
-use Prim.Native.Nat.{ℕ, _≤_}
-use native.Mathlib.Omega.{arith}
+use mathlib.Core.Path.{_≡_, ap, _∙_}
+use Prim.Native.Nat.{ℕ}
 use borrow.Author.Needs.{needs}
 use mathlib.Core.List.{List}
 use lib.ListN.{length}
@@ -9,7 +8,7 @@ use lib.Ieee.{Float}
 use Rattle.refusals.specs.Said.{Said, done, outcomeSays}
 use Rattle.stepped.specs.Says.{progressSays}
 use Rattle.stepped.proofs.Shapes.{workable}
-use Rattle.filling.proofs.Never.{never-refused}
+use Rattle.refusals.proofs.Laws.{never-refused}
 use Rattle.filling.proofs.Rows.{open-done, Worked, worked}
 use Rattle.filling.proofs.outputs.fill_outputs.Statement.{statement}
 use Rattle.filling.proofs.outputs.fill_outputs.Tie as tie

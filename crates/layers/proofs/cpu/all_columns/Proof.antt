@@ -11,7 +11,7 @@ use lib.ListN.{length, take, drop}
 use lib.Seq.{length-take-le, take-at}
 use lib.Ieee.{Float}
 use Rattle.refusals.specs.Said.{done}
-use Rattle.refusals.proofs.Laws.{carried-done}
+use Rattle.refusals.proofs.Laws.{carried-done, never-refused}
 use Rattle.memory.specs.Lists.{table, filled}
 use Rattle.memory.proofs.Filled.{length-table, filled-none}
 use Rattle.memory.proofs.Parts.{within}
@@ -23,7 +23,6 @@ use Rattle.shapes.proofs.Fits.{product-small}
 use Rattle.layers.specs.Says.{rowWeight, decodedDotAt, scratchAfter, cpuSays}
 use Rattle.layers.specs.Columns.{column, columns, scratchOf}
 use Rattle.layers.proofs.Columns.{columns-none, columns-more, columns-all, length-columns, scratch-none, scratch-more, scratch-last, length-scratch}
-use Rattle.layers.proofs.RowDots.{never-refused}
 use Rattle.layers.proofs.CpuFits.{CpuFits, cpu-fits}
 use Rattle.layers.proofs.cpu.all_columns.Statement.{statement}
 use Rattle.layers.proofs.cpu.all_columns.Tie as tie

@@ -10,14 +10,13 @@ use lib.Arith.{digits-div, digits-mod}
 use lib.ListN.{length, take, drop}
 use lib.Ieee.{Float}
 use Rattle.refusals.specs.Said.{done}
-use Rattle.refusals.proofs.Laws.{carried-done}
+use Rattle.refusals.proofs.Laws.{carried-done, never-refused}
 use Rattle.memory.specs.Lists.{table, filled, part}
 use Rattle.memory.proofs.Filled.{filled-none, part-length, part-turn}
 use Rattle.memory.proofs.Parts.{within}
 use Rattle.shapes.specs.Shapes.{outputs}
 use Rattle.shapes.proofs.Fits.{Fits, fits}
 use Rattle.layers.specs.Says.{fusedDotAt, fusedLayerSays}
-use Rattle.layers.proofs.RowDots.{never-refused}
 use Rattle.layers.proofs.fused_rows.all_rows.Statement.{statement}
 use Rattle.layers.proofs.fused_rows.all_rows.Tie as tie
 
