@@ -1,6 +1,7 @@
 -- What `fillin` answers: a window's outputs through the stepped layer, what is held from record to record, and that answering record by record gives the transcript of the whole input.
 pub mod Rows
 pub mod Replies
+pub mod Begun
 pub mod Holding
 pub mod Concluding
 pub mod RecordByRecord

@@ -1,0 +1,59 @@
+// The count of windows on standard error, for someone who waits at a terminal while the lines go elsewhere.
+use libc::STDERR_FILENO;
+use libc::STDOUT_FILENO;
+
+// How many windows lie between two counts that are shown.
+const STEP: u64 = 1_000;
+
+// Whether counts are shown, and the latest that was; 0 where none was yet.
+pub(crate) struct Progress {
+    wanted: bool,
+    shown: u64,
+}
+
+// Whether standard error is a terminal and standard output is not.
+fn is_wanted() -> bool {
+    if libc::isatty(STDERR_FILENO) == 0 {
+        return false;
+    }
+    libc::isatty(STDOUT_FILENO) == 0
+}
+
+// Writes a count over the one before it.
+fn show(windows: u64) {
+    io::write_all(STDERR_FILENO, b"\rfillin: ");
+    io::print_decimal(STDERR_FILENO, windows);
+    io::write_all(STDERR_FILENO, b" windows");
+}
+
+impl Progress {
+    pub(crate) fn begin() -> Self {
+        Progress {
+            wanted: is_wanted(),
+            shown: 0,
+        }
+    }
+
+    // After so many windows.
+    pub(crate) fn after(mut self, windows: u64) -> Self {
+        if !self.wanted {
+            return self;
+        }
+        if windows % STEP != 0 {
+            return self;
+        }
+        if windows == self.shown {
+            return self;
+        }
+        show(windows);
+        self.shown = windows;
+        self
+    }
+
+    // Ends the line of the counts, where there is one.
+    pub(crate) fn end(self) {
+        if self.shown > 0 {
+            io::write_all(STDERR_FILENO, b"\n");
+        }
+    }
+}

@@ -1,0 +1,4 @@
+// `fillin` on an empty input.
+fn main() {
+    desk::fill_in();
+}
