@@ -9,7 +9,7 @@ slice-relend-prefix-fill : tie.Need-slice-relend-prefix-fill
 slice-relend-prefix-fill c = search needs
 
 slice-aggregate-fill : tie.Need-slice-aggregate-fill
-slice-aggregate-fill c = simp (length-take, length-append, length-drop) (omega arith)
+slice-aggregate-fill c = simp length-take (omega arith)
 
 fill-requires : tie.Need-fill-requires
 fill-requires c κs = search needs
