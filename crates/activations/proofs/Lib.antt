@@ -9,4 +9,3 @@ pub mod Dots
 pub mod Bounds
 pub mod Rows
 pub mod Unique
-pub mod Card

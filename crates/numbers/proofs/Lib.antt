@@ -1,7 +1,6 @@
 -- What the numbers are as numbers, and what several proofs share.
 pub mod Widening
 pub mod Narrowing
-pub mod Card
 pub mod Unique
 pub mod SameValue
 pub mod Patterns

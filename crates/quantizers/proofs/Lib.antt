@@ -1,5 +1,4 @@
--- What several proofs of `quantizers` share, and the card's rows.
+-- What several proofs of `quantizers` share.
 pub mod Bytes
 pub mod Refused
 pub mod Unique
-pub mod Card

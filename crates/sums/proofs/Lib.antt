@@ -1,7 +1,6 @@
--- Laws of the sums, which the proofs of this crate and of the crates above it share; one answer for each call; bench card 9.
+-- Laws of the sums, which the proofs of this crate and of the crates above it share; one answer for each call.
 pub mod TreeLaws
 pub mod LaneLaws
 pub mod RowLaws
 pub mod Ones
 pub mod Unique
-pub mod Card

@@ -1,0 +1,2 @@
+-- The bench card holds.
+pub mod Card

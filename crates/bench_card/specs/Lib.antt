@@ -1,0 +1,2 @@
+-- Document 01's bench card.
+pub mod Card
