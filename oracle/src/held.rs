@@ -1,5 +1,6 @@
 //! Holding ours to what it is to be: its answers, and the memory that was lent to it.
 use crate::compare::{Compared, Difference};
+use crate::tally;
 use jambharrow::Refusal;
 
 /// Whether two floats are the same bits, or both NaN.
@@ -15,6 +16,7 @@ pub fn value(
     ours: Result<f32, Refusal>,
     input: impl Fn() -> String,
 ) -> Compared {
+    tally::count(refusal);
     let wanted = match refusal {
         Some(refusal) => Err(refusal),
         None => Ok(rust()),
@@ -43,6 +45,7 @@ pub fn outcome(
     ours: Result<(), Refusal>,
     input: impl Fn() -> String,
 ) -> Result<(), Difference> {
+    tally::count(refusal);
     if ours.err() == refusal {
         return Ok(());
     }

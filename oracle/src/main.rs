@@ -5,6 +5,7 @@ mod binary16;
 mod block_decoders;
 mod block_quantizers;
 mod calls;
+mod campaign;
 mod compare;
 mod fillin;
 mod fixed_order_sums;
@@ -24,9 +25,10 @@ mod row_dots;
 mod sample;
 mod stepped_layer;
 mod stepped_model;
+mod tally;
 
 use calls::{Call, CALLS};
-use compare::Comparison;
+use compare::{Comparison, Plan};
 use options::Options;
 use std::env;
 use std::fmt::Display;
@@ -35,6 +37,11 @@ use std::process::ExitCode;
 const USAGE: &str = "\
 oracle compare [CALL..]   compares ours with the Rust, on the calls named or on all; `stepped`
                           names those of the stepped layer; status 1 where an answer differs
+oracle campaign [--minutes M] [--seed S]
+                          compares every call on other inputs in each round, for so many minutes
+                          (60, seed 1): counts to a call and to a refusal number; keeps the cases
+                          that differ in a file; status 1 where there is one
+oracle again FILE         compares the cases of such a file again
 oracle sample             writes the stored sample that the program `replay` replays
 oracle fillin PROGRAM [--files N] [--seed S]
                           runs the program on N generated record files, most of them damaged, and
@@ -55,12 +62,26 @@ fn main() -> ExitCode {
             Ok(calls) => compare_all(&calls),
             Err(name) => misused(&format!("no call has the name {name}")),
         },
+        ["campaign", ref options @ ..] => campaign(options),
+        ["again", file] => ended("the cases", campaign::again(file)),
         ["sample"] => ended("the sample", sample::write().map(|()| true)),
         ["fillin", program, ref options @ ..] => fillin(program, options),
         ["records"] => ended("the records", gate_records::write().map(|()| true)),
         ["month", file, ref options @ ..] => month(file, options),
         ["dots", file] => ended("the dots", month::time_dots(file).map(|()| true)),
         _ => misused(USAGE),
+    }
+}
+
+fn campaign(options: &[&str]) -> ExitCode {
+    let mut options = match Options::of(options) {
+        Ok(options) => options,
+        Err(why) => return misused(&why),
+    };
+    let (minutes, seed) = (options.take("--minutes", 60), options.take("--seed", 1));
+    match options.rest() {
+        Ok(()) => ended("the campaign", campaign::run(minutes, seed)),
+        Err(why) => misused(&why),
     }
 }
 
@@ -129,7 +150,7 @@ fn compare_all(calls: &[&Call]) -> ExitCode {
     let mut values = 0;
     let mut differ = 0;
     for call in calls {
-        let mut comparison = Comparison::of(call.name);
+        let mut comparison = Comparison::of(call.name, Plan::All);
         (call.compare)(&mut comparison);
         cases += comparison.cases;
         values += comparison.values;

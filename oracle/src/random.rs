@@ -1,10 +1,19 @@
 //! Numbers that look random and are the same in every run: SplitMix64, from a seed.
+use std::sync::atomic::{AtomicU64, Ordering};
+
+/// What every seed is mixed with: nothing, but in a campaign, whose rounds draw other numbers.
+static SALT: AtomicU64 = AtomicU64::new(0);
+
+/// Has every seed from here on mixed with `salt`.
+pub fn set_salt(salt: u64) {
+    SALT.store(salt, Ordering::Relaxed);
+}
 
 pub struct Random(u64);
 
 impl Random {
     pub fn new(seed: u64) -> Random {
-        Random(seed)
+        Random(seed ^ SALT.load(Ordering::Relaxed))
     }
 
     pub fn u64(&mut self) -> u64 {

@@ -5,6 +5,7 @@ use crate::compare::{Compared, Comparison, Difference};
 use crate::held::{self, same, Place};
 use crate::sample::{count, floats, Records};
 use crate::stepped_model::{chunks, layout, needs, refusal, Input, Lengths, SteppedCall, Work};
+use crate::tally;
 use jambharrow::{Layer, Progress, Refusal, MOST_IN, MOST_OUT};
 use oracle::inputs::{any_float, any_scale, row, trained_scale, Draw, SCALES};
 use oracle::random::Random;
@@ -449,6 +450,7 @@ impl History<'_> {
         let before = (slots.memory.clone(), marks.memory.clone(), y.memory.clone());
         let (slots, marks) = (slots.part(lent.slots), marks.part(lent.marks));
         let refusal = refusal(layer, call, lent, marks);
+        tally::count(refusal);
         let work = match refusal {
             None => self.input.work(layer, call, slots, marks),
             Some(_) => Work::default(),
