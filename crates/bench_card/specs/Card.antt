@@ -1,7 +1,7 @@
 -- Document 01's bench card as one table: what each row asks, what the card says, and what the definitions that the contracts cite answer. Definitions only.
 use Prim.Native.Nat.{ℕ}
 use mathlib.Core.List.{List, [], _∷_, map}
-use lib.IntN.{pos}
+use lib.IntN.{ℤ, pos}
 use lib.ListN.{length, replicate, take}
 use lib.Ieee.{Float, binary32, ofBits, toBits, ofInt}
 use Rattle.refusals.specs.Said.{Said, value, done, refused}
@@ -12,6 +12,7 @@ use Rattle.quantizers.specs.Says.{quantizeSays}
 use Rattle.quantizers.specs.declared.target.Target.the-variants.{Q40}
 use Rattle.sums.specs.Says.{sumSays}
 use Rattle.activations.specs.Blocks.{quantized}
+use Rattle.activations.specs.declared.block.Quantized.{Quantized}
 use Rattle.activations.specs.declared.block.Q8Block.{Q8Block}
 
 -- What a row asks. A float is given by its bits, as the card writes it.
@@ -36,7 +37,6 @@ pub record Row : Type 0 where
   pub asks : Asked
   pub says : List ℕ
 
--- the floats that have these bits
 abbrev pub floats : List ℕ → List Float
 floats bs = map (ofBits binary32) bs
 
