@@ -1,16 +1,17 @@
 //! Activation blocks, and the integer dots over them.
 use crate::calls::Call;
-use crate::measure::Row;
+use crate::fixed_order_sums::readings;
+use crate::measure::{Beside, Row, Size};
 use crate::row_dots;
 use jambharrow::{Q8Block, Refusal};
-use oracle::inputs::{reading, trained_scale, Layout, Q4_K, Q6_K};
+use oracle::inputs::{trained_scale, Layout, Q4_K, Q6_K};
 use oracle::ops::quant;
 use oracle::random::Random;
 use std::hint::black_box;
 
 pub const QUANTIZE_BLOCK_Q8: Call = Call {
     name: "quantize_block_q8",
-    rows: || vec![row_of_quantize(256, Some(0.5)), row_of_quantize(100, None)],
+    rows: || PARTS.map(|part| row_of_quantize(part, 0.5)).into(),
 };
 
 pub const DOT_Q4K_Q8_BLOCK: Call = Call {
@@ -40,54 +41,48 @@ pub const DOT_Q6K_Q8_BLOCK: Call = Call {
 pub const INTEGER_DOT_Q4K: Call = Call {
     name: "integer_dot_q4k",
     rows: || {
-        let row = |(n, bar)| {
+        let row = |length: (Size, usize)| {
+            let bar = (length.0 == Size::Device).then_some(0.6);
             row_dots::row(
                 &Q4_K,
-                n,
+                length,
                 bar,
                 jambharrow::integer_dot_q4k,
                 quant::integer_dot_q4k,
             )
         };
-        ROWS.map(row).into()
+        row_dots::ROWS.map(row).into()
     },
 };
 
-/// The lengths of a row, and the bar of one of them.
-const ROWS: [(usize, Option<f64>); 4] = [
-    (256, None),
-    (2_048, Some(0.6)),
-    (4_096, None),
-    (131_072, None),
-];
-
-fn readings(random: &mut Random, len: usize) -> Vec<f32> {
-    (0..len).map(|_| reading(random)).collect()
-}
+/// How much of a block there is: one run of 32, a part that ends within one, and all of it.
+const PARTS: [(Size, usize); 3] = [(Size::Small, 32), (Size::Small, 100), (Size::Device, 256)];
 
 /// Ours fills the three parts of a block that is lent, and the Rust's is returned.
-fn row_of_quantize(len: usize, bar: Option<f64>) -> Row {
+fn row_of_quantize((size, len): (Size, usize), bar: f64) -> Row {
     let rust: fn(&[f32]) -> quant::Q8Block = black_box(quant::quantize_block_q8);
     let x = readings(&mut Random::new(len as u64), len);
     let theirs = x.clone();
     let (mut d, mut qs, mut bsums) = (0.0, [0; 256], [0; 8]);
     Row {
         input: format!("{len} readings"),
+        size,
+        values: len,
         calls: 1,
-        bar,
+        bar: (size == Size::Device).then_some(bar),
         vector: None,
         ours: Box::new(move || {
             let (d, qs, bsums) = black_box((&mut d, &mut qs, &mut bsums));
             jambharrow::quantize_block_q8_into(black_box(&x), d, qs, bsums)
                 .expect("readings of one block");
         }),
-        rust: Box::new(move || {
+        beside: Beside::Rust(Box::new(move || {
             black_box(rust(black_box(&theirs)));
-        }),
+        })),
     }
 }
 
-/// A block dot over all of a block, and over a part of it.
+/// A block dot over parts of a block, and over all of it.
 fn rows_of_dot(
     layout: &Layout,
     bar: f64,
@@ -95,7 +90,7 @@ fn rows_of_dot(
     rust: fn(&[u8], &quant::Q8Block, usize) -> f32,
 ) -> Vec<Row> {
     let rust = black_box(rust);
-    let row = |(n, bar): (usize, Option<f64>)| {
+    let row = |(size, n): (Size, usize)| {
         let mut random = Random::new(n as u64);
         let w = layout.blocks(&mut random, 1, trained_scale);
         let block = quant::quantize_block_q8(&readings(&mut random, n));
@@ -103,17 +98,19 @@ fn rows_of_dot(
         let (ours_w, ours_block) = (w.clone(), Q8Block { d, qs, bsums });
         Row {
             input: format!("n {n}"),
+            size,
+            values: n,
             calls: 1,
-            bar,
+            bar: (size == Size::Device).then_some(bar),
             vector: None,
             ours: Box::new(move || {
                 black_box(ours(black_box(&ours_w), black_box(&ours_block), n))
                     .expect("a block, with its sums");
             }),
-            rust: Box::new(move || {
+            beside: Beside::Rust(Box::new(move || {
                 black_box(rust(black_box(&w), black_box(&block), n));
-            }),
+            })),
         }
     };
-    [(256, Some(bar)), (100, None)].map(row).into()
+    PARTS.map(row).into()
 }

@@ -1,6 +1,6 @@
 //! Binary16, over an array of inputs of one kind.
 use crate::calls::Call;
-use crate::measure::Row;
+use crate::measure::{Beside, Row, Size, Turn};
 use oracle::ops::quant::reach;
 use oracle::random::Random;
 use std::hint::black_box;
@@ -75,15 +75,17 @@ fn row<T: Copy + 'static>(
     let inputs: Vec<T> = (0..INPUTS).map(|_| draw(&mut random)).collect();
     Row {
         input: input.into(),
+        size: Size::One,
+        values: 1,
         calls: INPUTS,
         bar: None,
         vector: None,
         ours: turn(inputs.clone(), ours),
-        rust: turn(inputs, rust),
+        beside: Beside::Rust(turn(inputs, rust)),
     }
 }
 
-fn turn<T: Copy + 'static>(inputs: Vec<T>, call: impl Fn(T) -> u32 + 'static) -> Box<dyn FnMut()> {
+fn turn<T: Copy + 'static>(inputs: Vec<T>, call: impl Fn(T) -> u32 + 'static) -> Turn {
     Box::new(move || {
         let answers = black_box(&inputs)
             .iter()

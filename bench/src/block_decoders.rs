@@ -1,6 +1,6 @@
-//! The block decoders, over a few blocks and over many.
+//! The block decoders, over the blocks of one K block's values, of a row of the logger, and of many.
 use crate::calls::Call;
-use crate::measure::Row;
+use crate::measure::{Beside, Row, Size};
 use jambharrow::Refusal;
 use oracle::inputs::{self, any_scale, trained_scale, Draw, Layout};
 use oracle::ops::quant;
@@ -67,8 +67,12 @@ pub const DEQUANTIZE_Q6_K: Call = Call {
     },
 };
 
-/// How many values a small run of blocks has, and a large one.
-const RUNS: [usize; 2] = [2_048, 65_536];
+/// How many values a run of blocks has.
+const RUNS: [(Size, usize); 3] = [
+    (Size::Small, 256),
+    (Size::Device, 2_048),
+    (Size::Large, 65_536),
+];
 
 /// The kinds of scale that a run has.
 const SCALES: [(&str, Draw<u16>); 2] = [("trained", trained_scale), ("any", any_scale)];
@@ -80,25 +84,28 @@ fn rows(
     rust: fn(&[u8]) -> oracle::error::Result<Vec<f32>>,
 ) -> Vec<Row> {
     let rust = black_box(rust);
-    let row = |values: usize, kind: &str, scale| {
+    let row = |(size, values): (Size, usize), kind: &str, scale| {
         let count = values / layout.values;
-        let blocks = layout.blocks(&mut Random::new(values as u64), count, scale);
-        let theirs = blocks.clone();
+        let blocks = if count == 1 { "block" } else { "blocks" };
+        let packed = layout.blocks(&mut Random::new(values as u64), count, scale);
+        let theirs = packed.clone();
         let mut out = vec![0.0; values];
         Row {
-            input: format!("{count} blocks, {kind} scales"),
+            input: format!("{count} {blocks}, {kind} scales"),
+            size,
+            values,
             calls: 1,
-            bar: Some(bar),
+            bar: (size != Size::Small).then_some(bar),
             vector: Some(values),
             ours: Box::new(move || {
-                ours(black_box(&blocks), black_box(&mut out)).expect("room for whole blocks");
+                ours(black_box(&packed), black_box(&mut out)).expect("room for whole blocks");
             }),
-            rust: Box::new(move || {
+            beside: Beside::Rust(Box::new(move || {
                 black_box(rust(black_box(&theirs))).expect("whole blocks");
-            }),
+            })),
         }
     };
     RUNS.into_iter()
-        .flat_map(|values| SCALES.map(|(kind, scale)| row(values, kind, scale)))
+        .flat_map(|run| SCALES.map(|(kind, scale)| row(run, kind, scale)))
         .collect()
 }

@@ -1,6 +1,6 @@
-//! The block quantizers, over a few blocks and over many.
+//! The block quantizers, over 256 readings, a row of the logger, and many.
 use crate::calls::Call;
-use crate::measure::Row;
+use crate::measure::{Beside, Row, Size};
 use jambharrow::Refusal;
 use oracle::inputs::reading;
 use oracle::ops::quant;
@@ -17,8 +17,8 @@ pub const QUANTIZE_Q8_0: Call = Call {
     rows: || rows(34, jambharrow::quantize_q8_0, quant::quantize_q8_0),
 };
 
-/// How many blocks of 32 readings a small run has, and a large one.
-const RUNS: [usize; 2] = [64, 2_048];
+/// How many blocks of 32 readings a run has.
+const RUNS: [(Size, usize); 3] = [(Size::Small, 8), (Size::Device, 64), (Size::Large, 2_048)];
 
 /// How much of the Rust's time a quantizer may take at most.
 const BAR: f64 = 0.7;
@@ -29,22 +29,24 @@ fn rows(
     rust: fn(&[f32]) -> oracle::error::Result<Vec<u8>>,
 ) -> Vec<Row> {
     let rust = black_box(rust);
-    let row = |blocks: usize| {
+    let row = |(size, blocks): (Size, usize)| {
         let mut random = Random::new(blocks as u64);
         let data: Vec<f32> = (0..32 * blocks).map(|_| reading(&mut random)).collect();
         let theirs = data.clone();
         let mut out = vec![0; bytes * blocks];
         Row {
             input: format!("{blocks} blocks of readings"),
+            size,
+            values: 32 * blocks,
             calls: 1,
-            bar: Some(BAR),
+            bar: (size != Size::Small).then_some(BAR),
             vector: None,
             ours: Box::new(move || {
                 ours(black_box(&data), black_box(&mut out)).expect("room for whole blocks");
             }),
-            rust: Box::new(move || {
+            beside: Beside::Rust(Box::new(move || {
                 black_box(rust(black_box(&theirs))).expect("whole blocks");
-            }),
+            })),
         }
     };
     RUNS.into_iter().map(row).collect()

@@ -2,7 +2,7 @@
 use crate::measure::Row;
 use crate::{
     activation_blocks, binary16, block_decoders, block_quantizers, fixed_order_sums, fused_dots,
-    linear_layers, stepped_layer,
+    linear_layers, stepped_calls, stepped_layer,
 };
 
 pub struct Call {
@@ -12,8 +12,8 @@ pub struct Call {
     pub rows: fn() -> Vec<Row>,
 }
 
-/// Every call, in the order of the table.
-pub static CALLS: [Call; 29] = [
+/// Every public call, in the order of the table, and last the stepped layer as a whole.
+pub static CALLS: [Call; 33] = [
     binary16::F16_TO_F32,
     binary16::F32_TO_F16,
     block_decoders::DEQUANTIZE_Q4_0,
@@ -42,5 +42,9 @@ pub static CALLS: [Call; 29] = [
     linear_layers::LINEAR_Q4_K_CPU,
     linear_layers::LINEAR_Q6_K_CPU,
     linear_layers::LINEAR_Q4_0_CPU,
+    stepped_calls::OPEN,
+    stepped_calls::PIECE,
+    stepped_calls::RUN,
+    stepped_calls::CLOSE,
     stepped_layer::STEPPED,
 ];

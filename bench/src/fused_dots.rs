@@ -1,16 +1,16 @@
 //! The fused dots, over rows of readings and packed weights.
 use crate::calls::Call;
-use crate::row_dots::row;
+use crate::row_dots::{row, ROWS};
 use oracle::inputs::{Q4_K, Q6_K};
 use oracle::ops::quant;
 
 pub const CANONICAL_DOT_Q4K_FUSED: Call = Call {
     name: "canonical_dot_q4k_fused",
     rows: || {
-        let row = |n| {
+        let row = |length| {
             row(
                 &Q4_K,
-                n,
+                length,
                 None,
                 jambharrow::canonical_dot_q4k_fused,
                 quant::canonical_dot_q4k_fused,
@@ -23,10 +23,10 @@ pub const CANONICAL_DOT_Q4K_FUSED: Call = Call {
 pub const Q6K_FUSED_F32_DOT: Call = Call {
     name: "q6k_fused_f32_dot",
     rows: || {
-        let row = |n| {
+        let row = |length| {
             row(
                 &Q6_K,
-                n,
+                length,
                 None,
                 jambharrow::q6k_fused_f32_dot,
                 quant::q6k_fused_f32_dot,
@@ -35,6 +35,3 @@ pub const Q6K_FUSED_F32_DOT: Call = Call {
         ROWS.map(row).into()
     },
 };
-
-/// The lengths of a row.
-const ROWS: [usize; 4] = [256, 2_048, 4_096, 131_072];

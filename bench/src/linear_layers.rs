@@ -1,6 +1,6 @@
 //! The layers, over one row of readings.
 use crate::calls::Call;
-use crate::measure::Row;
+use crate::measure::{Beside, Row, Size};
 use jambharrow::Refusal;
 use oracle::error::Result as RustResult;
 use oracle::inputs::{reading, trained_scale, Layout, Q4_0, Q4_K, Q6_K};
@@ -80,9 +80,13 @@ pub const LINEAR_Q4_0_CPU: Call = Call {
     },
 };
 
-/// The out_feat and in_feat of a layer: the largest that a record may hold, and one of a large
-/// network.
-const LAYERS: [(usize, usize); 2] = [(16, 2_048), (1_024, 4_096)];
+/// The out_feat and in_feat of a layer: one row of one block, the largest that a record may hold,
+/// and one of a large network.
+const LAYERS: [(Size, [usize; 2]); 3] = [
+    (Size::Small, [1, 256]),
+    (Size::Device, [16, 2_048]),
+    (Size::Large, [1_024, 4_096]),
+];
 
 /// Readings, packed bytes, the output, batch, in_feat and out_feat.
 type Linear = fn(&[f32], &[u8], &mut [f32], usize, usize, usize) -> RustResult<()>;
@@ -96,9 +100,9 @@ fn rows(
     rust: Linear,
 ) -> Vec<Row> {
     let ours =
-        |_| move |x: &[f32], w: &[u8], y: &mut [f32], [b, i, o]: [usize; 3]| ours(x, w, y, b, i, o);
+        move |x: &[f32], w: &[u8], y: &mut [f32], [b, i, o]: [usize; 3]| ours(x, w, y, b, i, o);
     LAYERS
-        .map(|sizes| row(layout, sizes, bar, None, ours(sizes), rust))
+        .map(|layer| row(layout, layer, bar, None, ours, rust))
         .into()
 }
 
@@ -111,20 +115,20 @@ fn rows_cpu(
     rust: Linear,
 ) -> Vec<Row> {
     LAYERS
-        .map(|(out_feat, in_feat)| {
+        .map(|(size, [out_feat, in_feat])| {
             let mut scratch = vec![0.0; in_feat];
             let vector = Some(out_feat * in_feat);
             let ours = move |x: &[f32], w: &[u8], y: &mut [f32], [b, i, o]: [usize; 3]| {
                 ours(x, w, y, black_box(&mut scratch), b, i, o)
             };
-            row(layout, (out_feat, in_feat), 0.5, vector, ours, rust)
+            row(layout, (size, [out_feat, in_feat]), 0.5, vector, ours, rust)
         })
         .into()
 }
 
 fn row(
     layout: &Layout,
-    (out_feat, in_feat): (usize, usize),
+    (size, [out_feat, in_feat]): (Size, [usize; 2]),
     bar: f64,
     vector: Option<usize>,
     mut ours: impl FnMut(&[f32], &[u8], &mut [f32], [usize; 3]) -> Result<(), Refusal> + 'static,
@@ -142,16 +146,18 @@ fn row(
     let (their_x, their_w, mut their_y, mut y) = (x.clone(), w.clone(), y.clone(), y);
     Row {
         input: format!("{out_feat} rows of {in_feat}"),
+        size,
+        values: out_feat * in_feat,
         calls: 1,
-        bar: Some(bar),
+        bar: (size != Size::Small).then_some(bar),
         vector,
         ours: Box::new(move || {
             let (x, w) = black_box((&x, &w));
             ours(x, w, black_box(&mut y), [1, in_feat, out_feat]).expect("a whole layer");
         }),
-        rust: Box::new(move || {
+        beside: Beside::Rust(Box::new(move || {
             let (x, w) = black_box((&their_x, &their_w));
             rust(x, w, black_box(&mut their_y), 1, in_feat, out_feat).expect("a whole layer");
-        }),
+        })),
     }
 }

@@ -1,4 +1,4 @@
-//! Measures Jambharrow beside the Rust and prints a table.
+//! Measures Jambharrow beside the Rust: a table on standard output, or a page with pictures.
 mod activation_blocks;
 mod binary16;
 mod block_decoders;
@@ -6,93 +6,119 @@ mod block_quantizers;
 mod calls;
 mod fixed_order_sums;
 mod fused_dots;
+mod growth;
 mod linear_layers;
 mod measure;
+mod measured;
+mod page;
+mod ratios;
 mod row_dots;
+mod stepped_calls;
 mod stepped_layer;
+mod stepped_work;
+mod svg;
+mod table;
 
 use calls::{Call, CALLS};
-use measure::{measure, Row, ROUNDS};
-use std::env;
+use measured::Measured;
+use std::io::{self, IsTerminal};
 use std::process::ExitCode;
+use std::{env, fs};
 
-const HEAD: &str = "\
-Nanoseconds of one call, and ours over the Rust's: below 1.00 ours is faster. A bar is the
-most that this may be, and the word behind it says whether it is held. Neither side is
-inlined where it is measured: ours is called through C, and the Rust through a pointer, so
-that each pays for one call. The Rust's block decoders put their values into a new vector,
-which is part of their time and cannot be taken out of them, as its block quantizers do with
-their bytes, its row dots with the sums of their chunks or blocks, and its `_cpu` layers with
-all of their weights; to make and to drop a decoder's vector, or such a layer's, takes the time
-in the column `vector`. Ours fill lent memory. The Rust has no stepped layer: beside ours, from
-the open of a layer to the close of its last row, by runs with a budget of 1 or by pieces,
-stands the same layer in one go, which is ours too.";
+const USAGE: &str = "\
+bench table [CALL..]             measures the calls named, or all, and prints a table
+bench measure FILE               measures all calls and keeps what was measured in FILE
+bench page FILE NATIVE FOLDER PROCESSOR DAY COMPILER
+                                 makes the page and its pictures in FOLDER, from what was measured
+                                 beside the Rust, and beside the Rust for this very processor";
 
 fn main() -> ExitCode {
-    let names: Vec<String> = env::args().skip(1).collect();
-    match chosen(&names) {
-        Ok(calls) => {
-            print_table(&calls);
-            ExitCode::SUCCESS
+    let words: Vec<String> = env::args().skip(1).collect();
+    let words: Vec<&str> = words.iter().map(String::as_str).collect();
+    let ended = match words[..] {
+        ["table", ref names @ ..] => print_table(names),
+        ["measure", file] => keep(file),
+        ["page", file, native, folder, processor, day, compiler] => {
+            make_page(file, native, folder, [processor, day, compiler])
         }
-        Err(name) => {
-            eprintln!("bench [CALL..]: no call has the name {name}");
+        _ => Err(USAGE.into()),
+    };
+    match ended {
+        Ok(true) => ExitCode::SUCCESS,
+        Ok(false) => ExitCode::FAILURE,
+        Err(why) => {
+            eprintln!("{why}");
             ExitCode::from(2)
         }
     }
 }
 
-/// The calls of the names given, all where none is; or the name that no call has.
-fn chosen(names: &[String]) -> Result<Vec<&'static Call>, &str> {
+/// Measures and prints as it goes; whether every bar is held.
+fn print_table(names: &[&str]) -> Result<bool, String> {
+    let calls = chosen(names)?;
+    println!("{}", table::head());
+    let mut held = true;
+    for call in calls {
+        for row in (call.rows)() {
+            let measured = Measured::of(call.name, row);
+            println!("{}", table::line(&measured));
+            held &= measured.held() != Some(false);
+        }
+    }
+    Ok(held)
+}
+
+/// The calls of the names given, all where none is.
+fn chosen(names: &[&str]) -> Result<Vec<&'static Call>, String> {
     if names.is_empty() {
         return Ok(CALLS.iter().collect());
     }
     names
         .iter()
         .map(|name| {
-            let found = CALLS.iter().find(|call| call.name == name);
-            found.ok_or(name.as_str())
+            let found = CALLS.iter().find(|call| call.name == *name);
+            found.ok_or(format!("no call has the name {name}"))
         })
         .collect()
 }
 
-fn print_table(calls: &[&Call]) {
-    println!("{HEAD}");
-    println!("The median of {ROUNDS} rounds, in which both sides take turns, in one process.");
-    println!();
-    println!(
-        "{:<23} {:<30} {:>9} {:>9} {:>9} {:>9}  bar",
-        "call", "input", "ours", "the Rust", "vector", "ours/Rust"
-    );
-    for call in calls {
+fn keep(file: &str) -> Result<bool, String> {
+    let mut lines = String::new();
+    for (at, call) in CALLS.iter().enumerate() {
+        if io::stderr().is_terminal() {
+            eprint!("\r\x1b[K{} of {} calls, {}", at + 1, CALLS.len(), call.name);
+        }
         for row in (call.rows)() {
-            print_row(call.name, row);
+            lines += &Measured::of(call.name, row).line();
+            lines += "\n";
         }
     }
-}
-
-fn print_row(name: &str, row: Row) {
-    let input = row.input.clone();
-    let bar = row.bar;
-    let times = measure(row);
-    let ratio = times.ours / times.rust;
-    let vector = times.vector.map_or(String::new(), nanoseconds);
-    let bar = match bar {
-        Some(bar) if ratio <= bar => format!("  {bar:.2} held"),
-        Some(bar) => format!("  {bar:.2} MISSED"),
-        None => String::new(),
-    };
-    println!(
-        "{name:<23} {input:<30} {:>9} {:>9} {vector:>9} {ratio:>9.2}{bar}",
-        nanoseconds(times.ours),
-        nanoseconds(times.rust),
-    );
-}
-
-fn nanoseconds(time: f64) -> String {
-    if time < 100.0 {
-        format!("{time:.2}")
-    } else {
-        format!("{time:.0}")
+    if io::stderr().is_terminal() {
+        eprint!("\r\x1b[K");
     }
+    fs::write(file, lines).map_err(|error| format!("{file}: {error}"))?;
+    Ok(true)
+}
+
+/// Makes the page and says how many bars are held; whether all are.
+fn make_page(file: &str, native: &str, folder: &str, of: [&str; 3]) -> Result<bool, String> {
+    let rows = page::pairs(read(file)?, read(native)?)?;
+    let write = |name: &str, text: String| {
+        let path = format!("{folder}/{name}");
+        fs::write(&path, text).map_err(|error| format!("{path}: {error}"))
+    };
+    fs::create_dir_all(folder).map_err(|error| format!("{folder}: {error}"))?;
+    write("ratios.svg", ratios::picture(&rows))?;
+    write("growth.svg", growth::picture(&rows))?;
+    write("README.md", page::text(&rows, of))?;
+    let bars = page::Bars::of(&rows);
+    println!("{bars}: {folder}/README.md");
+    Ok(bars.held == bars.all)
+}
+
+fn read(file: &str) -> Result<Vec<Measured>, String> {
+    let text = fs::read_to_string(file).map_err(|error| format!("{file}: {error}"))?;
+    text.lines()
+        .map(|line| Measured::of_line(line).ok_or(format!("{file}: not measured: {line}")))
+        .collect()
 }

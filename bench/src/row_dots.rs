@@ -1,5 +1,5 @@
 //! The dot of a row of readings and a row of packed blocks, whichever call it is.
-use crate::measure::Row;
+use crate::measure::{Beside, Row, Size};
 use jambharrow::Refusal;
 use oracle::error::Result as RustResult;
 use oracle::inputs::{reading, trained_scale, Layout};
@@ -7,10 +7,18 @@ use oracle::random::Random;
 use std::hint::black_box;
 use std::rc::Rc;
 
+/// The lengths of a row.
+pub const ROWS: [(Size, usize); 4] = [
+    (Size::Small, 256),
+    (Size::Device, 2_048),
+    (Size::Large, 4_096),
+    (Size::Large, 131_072),
+];
+
 /// A call on n readings and the blocks that they need.
 pub fn row(
     layout: &Layout,
-    n: usize,
+    (size, n): (Size, usize),
     bar: Option<f64>,
     ours: impl Fn(&[f32], &[u8], usize) -> Result<f32, Refusal> + 'static,
     rust: fn(&[f32], &[u8], usize) -> RustResult<f32>,
@@ -23,6 +31,8 @@ pub fn row(
     let theirs = both.clone();
     Row {
         input: format!("{n} readings"),
+        size,
+        values: n,
         calls: 1,
         bar,
         vector: None,
@@ -30,9 +40,9 @@ pub fn row(
             let (x, w) = black_box(&*both);
             black_box(ours(x, w, x.len())).expect("rows of n places");
         }),
-        rust: Box::new(move || {
+        beside: Beside::Rust(Box::new(move || {
             let (x, w) = black_box(&*theirs);
             black_box(rust(x, w, x.len())).expect("rows of n places");
-        }),
+        })),
     }
 }

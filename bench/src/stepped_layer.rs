@@ -1,19 +1,19 @@
-//! The stepped layer: a layer worked by pieces, beside our own layer in one go.
+//! A layer worked by pieces, from its open to the close of its last row, beside our own layer in one
+//! go.
 use crate::calls::Call;
-use crate::measure::Row;
-use jambharrow::{Layer, Progress, Refusal};
-use oracle::inputs::{self, reading, trained_scale, Layout};
-use oracle::random::Random;
+use crate::measure::{Beside, Row, Size};
+use crate::stepped_work::{Format, Work, CHUNK, FORMATS, SHAPES};
+use jambharrow::Progress;
 use std::hint::black_box;
 
 pub const STEPPED: Call = Call {
-    name: "stepped",
+    name: "a layer by steps",
     rows: || {
         let rows = |format: &Format| {
             SHAPES.map(|shape| {
                 [
-                    format.row(shape, "runs", by_runs),
-                    format.row(shape, "pieces", by_pieces),
+                    row(format, shape, "runs of 1", by_runs),
+                    row(format, shape, "pieces", by_pieces),
                 ]
             })
         };
@@ -21,82 +21,26 @@ pub const STEPPED: Call = Call {
     },
 };
 
-/// out_feat and in_feat.
-const SHAPES: [(usize, usize); 2] = [(16, 2_048), (64, 16_384)];
-
-/// The places of a chunk at most.
-const CHUNK: usize = 8_192;
-
 /// How much of the time in one go a layer by pieces may take at most.
 const BAR: f64 = 1.1;
 
-/// A layer in one go: readings, weights and output, batch, in_feat and out_feat.
-type OneGo = fn(&[f32], &[u8], &mut [f32], usize, usize, usize) -> Result<(), Refusal>;
-
-/// A format, and a layer of it in one go.
-struct Format {
-    name: &'static str,
-    byte: u8,
-    layout: Layout,
-    one_go: OneGo,
-}
-
-const FORMATS: [Format; 2] = [
-    Format {
-        name: "Q4_K",
-        byte: Layer::Q4_K,
-        layout: inputs::Q4_K,
-        one_go: jambharrow::linear_q4_k_fused,
-    },
-    Format {
-        name: "Q6_K",
-        byte: Layer::Q6_K,
-        layout: inputs::Q6_K,
-        one_go: jambharrow::linear_q6_k_fused,
-    },
-];
-
-/// A layer, and all that its calls are lent.
-#[derive(Clone)]
-struct Work {
-    layer: Layer,
-    w: Vec<u8>,
-    x: Vec<f32>,
-    slots: Vec<f32>,
-    marks: Vec<u8>,
-    y: Vec<f32>,
-}
-
-impl Format {
-    fn row(&self, (out_feat, in_feat): (usize, usize), by: &str, worked: fn(&mut Work)) -> Row {
-        let mut random = Random::new(in_feat as u64);
-        let blocks = in_feat / self.layout.values;
-        let pieces = out_feat * in_feat.div_ceil(CHUNK);
-        let mut work = Work {
-            layer: Layer {
-                format: self.byte,
-                in_feat,
-                out_feat,
-            },
-            w: (self.layout).blocks(&mut random, out_feat * blocks, trained_scale),
-            x: (0..in_feat).map(|_| reading(&mut random)).collect(),
-            slots: vec![0.0; pieces],
-            marks: vec![0; pieces],
-            y: vec![0.0; out_feat],
-        };
-        let mut whole = work.clone();
-        let one_go = self.one_go;
-        Row {
-            input: format!("{} {out_feat} x {in_feat}, {by}/one go", self.name),
-            calls: 1,
-            bar: Some(BAR),
-            vector: None,
-            ours: Box::new(move || worked(black_box(&mut work))),
-            rust: Box::new(move || {
-                let Work { w, x, y, .. } = black_box(&mut whole);
-                one_go(x, w, y, 1, in_feat, out_feat).expect("the whole layer");
-            }),
-        }
+fn row(format: &Format, (size, shape): (Size, [usize; 2]), by: &str, worked: fn(&mut Work)) -> Row {
+    let mut work = format.work(shape);
+    let mut whole = work.clone();
+    let one_go = format.one_go;
+    let [out_feat, in_feat] = shape;
+    Row {
+        input: format!("{} {out_feat} x {in_feat}, {by}", format.name),
+        size,
+        values: out_feat * in_feat,
+        calls: 1,
+        bar: (size != Size::Small).then_some(BAR),
+        vector: None,
+        ours: Box::new(move || worked(black_box(&mut work))),
+        beside: Beside::OneGo(Box::new(move || {
+            let Work { w, x, y, .. } = black_box(&mut whole);
+            one_go(x, w, y, 1, in_feat, out_feat).expect("the whole layer");
+        })),
     }
 }
 
