@@ -8,11 +8,15 @@ use std::collections::BTreeMap;
 use std::fs;
 use std::io::{self, Read, Write};
 use std::process::{Child, Command, ExitStatus, Stdio};
-use std::sync::Mutex;
+use std::sync::{mpsc, Mutex};
 use std::thread;
+use std::time::Duration;
 
 /// How many bytes more than wanted are read of what the program prints.
 const SURPLUS: usize = 4_096;
+
+/// How long the program has for one file.
+const LIMIT: Duration = Duration::from_secs(60);
 
 /// What the files came to: how many ended by each kind of last line, and how many windows.
 #[derive(Default)]
@@ -96,7 +100,7 @@ fn count(tally: &Mutex<Tally>, wanted: &Transcript) {
 /// What the program did otherwise than it is to, if anything.
 fn wrong(wanted: &Transcript, printed: &[u8], status: ExitStatus) -> Option<String> {
     let printed_text = String::from_utf8_lossy(printed);
-    if status.code().is_none() {
+    if !status.success() {
         return Some(format!("{status} after {printed_text:?}"));
     }
     (printed != wanted.text.as_bytes()).then(|| format!("{printed_text:?}"))
@@ -117,10 +121,12 @@ fn run(program: &str, file: &[u8], piece: usize, most: usize) -> io::Result<(Vec
 }
 
 /// Writes the file and reads what is printed at the same time, so that neither waits for the other.
-/// A program that stops may leave the rest of its input unread.
+/// A program that stops may leave the rest of its input unread, and one that goes on for too long is
+/// ended.
 fn talk(child: &mut Child, file: &[u8], piece: usize, most: usize) -> io::Result<Vec<u8>> {
     let mut input = child.stdin.take().expect("the input is a pipe");
     let output = child.stdout.take().expect("the output is a pipe");
+    let (done, ended) = mpsc::channel();
     thread::scope(|scope| {
         scope.spawn(move || {
             for piece in file.chunks(piece) {
@@ -129,8 +135,18 @@ fn talk(child: &mut Child, file: &[u8], piece: usize, most: usize) -> io::Result
                 }
             }
         });
-        let mut printed = Vec::new();
-        output.take(most as u64).read_to_end(&mut printed)?;
-        Ok(printed)
+        scope.spawn(move || {
+            let mut printed = Vec::new();
+            let read = output.take(most as u64).read_to_end(&mut printed);
+            // Where nobody waits any more, the program was ended.
+            let _ = done.send(read.map(|_| printed));
+        });
+        ended.recv_timeout(LIMIT).unwrap_or_else(|_| {
+            child.kill()?;
+            Err(io::Error::new(
+                io::ErrorKind::TimedOut,
+                format!("not ended after {LIMIT:?}"),
+            ))
+        })
     })
 }
