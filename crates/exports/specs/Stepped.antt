@@ -1,6 +1,6 @@
 -- How C names a stepped layer, and how it is handed what run says: as a number that is returned, and two counts that go through pointers. Definitions only.
 use Prim.Native.Nat.{ℕ}
-use Rattle.stepped.specs.declared.shape.Layer.{Layer}
+use Rattle.stepped_shape.specs.declared.shape.Layer.{Layer}
 use Rattle.stepped.specs.Says.{RunSaid, ran, refused}
 
 -- the layer of a call's first three parameters

@@ -1,7 +1,7 @@
 // The stepped layer.
 use crate::answers::number_of;
-use stepped::Layer;
 use stepped::Progress;
+use stepped_shape::Layer;
 ghost use mathlib.Core.Path.{_≡_};
 ghost use Rattle.stepped.specs.Says.{progressSays, openSays, pieceSays, runSays, closeSays};
 ghost use Rattle.exports.specs.Answers.{numbered};

@@ -4,8 +4,8 @@ use mathlib.Core.Path.{_≡_, refl, sym, subst}
 use lib.Dec.{lit≤}
 use Rattle.refusals.specs.Refusals.{given}
 use Rattle.layouts.specs.Formats.{formatOf}
-use Rattle.stepped.specs.Layer.{rowBytes, weightNeed}
-use Rattle.stepped.specs.Refusals.{shapeNo}
+use Rattle.stepped_shape.specs.Layer.{rowBytes, weightNeed}
+use Rattle.stepped_shape.specs.Refusals.{shapeNo}
 use Rattle.filling.specs.declared.state.State.{State}
 use Rattle.filling.specs.Kept.{Held, begun}
 

@@ -10,8 +10,8 @@ use lib.ListN.{length, drop, length-drop}
 use Rattle.refusals.specs.Refusals.{none}
 use Rattle.refusals.specs.Sizes.{mostIn, mostOut}
 use Rattle.refusals.proofs.Laws.{given-no, else-later}
-use Rattle.stepped.specs.Layer.{chunks, pieces, rowBytes, weightNeed}
-use Rattle.stepped.specs.Refusals.{shapeNo, roomNo, workNo}
+use Rattle.stepped_shape.specs.Layer.{chunks, pieces, rowBytes, weightNeed}
+use Rattle.stepped_shape.specs.Refusals.{shapeNo, roomNo, workNo}
 use Rattle.records.specs.Frame.{payloadAt}
 use Rattle.records.specs.Kinds.{weightBytes}
 use Rattle.records.specs.Found.{Found, ended, layer, window, warmUp, refused, foundAt, later}

@@ -6,7 +6,7 @@ use lib.ListN.{length, take, drop}
 use lib.Seq.{take-length}
 use Rattle.lines.specs.Text.{laid}
 use Rattle.lines.proofs.Laid.{laid-front}
-use Rattle.stepped.specs.declared.shape.Layer.{Layer}
+use Rattle.stepped_shape.specs.declared.shape.Layer.{Layer}
 use Rattle.filling.specs.declared.state.State.{State}
 
 -- a state whose weight bytes and offset were computed

@@ -14,17 +14,17 @@ use Rattle.refusals.specs.Refusals.{none}
 use Rattle.refusals.proofs.Laws.{given-no, given-none, else-later, else-none, carried-done}
 use Rattle.memory.specs.Lists.{table, filled}
 use Rattle.memory.proofs.Filled.{table-ext, length-table}
-use Rattle.stepped.specs.declared.shape.Layer.{Layer}
-use Rattle.stepped.specs.Layer.{chunks, pieces, openCount, openOf, openInRow}
-use Rattle.stepped.specs.Refusals.{openNo, workNo, closeNo}
+use Rattle.stepped_shape.specs.declared.shape.Layer.{Layer}
+use Rattle.stepped_shape.specs.Layer.{chunks, pieces, openCount, openOf, openInRow}
+use Rattle.stepped_shape.specs.Refusals.{openNo, workNo, closeNo}
+use Rattle.stepped_shape.proofs.Shapes.{row-within, workable}
+use Rattle.stepped_shape.proofs.Marks.{open-append}
 use Rattle.stepped.specs.Says as said
 use Rattle.stepped.specs.Says.{RunSaid, openSays, runSays, rowMet, closeSays}
 use Rattle.stepped.specs.History.{inOneGo, run, close, closedBy, call, calls, opened}
-use Rattle.stepped.proofs.Shapes.{row-within, workable}
 use Rattle.stepped.proofs.Answers.{ran-done}
 use Rattle.stepped.proofs.Counts.{run-counts}
 use Rattle.stepped.proofs.History.{demand3}
-use Rattle.stepped.proofs.Marks.{open-append}
 
 -- no piece of the layer is open: none of a row is
 none-in-row : (l : Layer) (marks : List ℕ) (row : ℕ) → row < l .«out_feat» → openOf l marks ≡ 0 → openInRow l marks row ≡ 0

@@ -6,7 +6,7 @@ use mathlib.Core.List.{List}
 use lib.ListN.{length, drop}
 use lib.Ieee.{Float}
 use Rattle.memory.specs.Lists.{table}
-use Rattle.stepped.specs.declared.shape.Layer.{Layer}
+use Rattle.stepped_shape.specs.declared.shape.Layer.{Layer}
 use Rattle.stepped.specs.History.{inOneGo}
 use Rattle.records.specs.Frame.{payloadAt}
 use Rattle.records.specs.Kinds.{readingAt}

@@ -2,9 +2,9 @@
 use Prim.Native.Nat.{ℕ, _+_, _^_, _≤_, _<_}
 use mathlib.Core.Path.{_≡_}
 use Rattle.refusals.specs.Refusals.{none}
-use Rattle.stepped.specs.declared.shape.Layer.{Layer}
-use Rattle.stepped.specs.Layer.{weightNeed}
-use Rattle.stepped.specs.Refusals.{shapeNo}
+use Rattle.stepped_shape.specs.declared.shape.Layer.{Layer}
+use Rattle.stepped_shape.specs.Layer.{weightNeed}
+use Rattle.stepped_shape.specs.Refusals.{shapeNo}
 use Rattle.filling.specs.declared.state.State.{State}
 
 -- the layer of a layer record

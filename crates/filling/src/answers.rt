@@ -4,7 +4,7 @@ use crate::state::Reply;
 use crate::state::State;
 use records::Item;
 use refusals::Outcome;
-use stepped::Layer;
+use stepped_shape::Layer;
 ghost use mathlib.Core.Path.{_≡_};
 ghost use Prim.Native.Nat.{_+_, _*_, _^_, _≤_, _<_};
 ghost use mathlib.Core.List.{[]};

@@ -1,15 +1,15 @@
 // A window's outputs: the fused float dot of each row, through the stepped layer.
 use refusals::Outcome;
-use stepped::Layer;
 use stepped::Progress;
+use stepped_shape::Layer;
 ghost use mathlib.Core.Path.{_≡_};
 ghost use Prim.Native.Nat.{_*_, _≤_};
 ghost use lib.ListN.{length};
 ghost use Rattle.refusals.specs.Said.{outcomeSays, done};
 ghost use Rattle.refusals.specs.Refusals.{none};
 ghost use Rattle.memory.specs.Lists.{filled};
-ghost use Rattle.stepped.specs.Layer.{openOf};
-ghost use Rattle.stepped.specs.Refusals.{openNo, workNo};
+ghost use Rattle.stepped_shape.specs.Layer.{openOf};
+ghost use Rattle.stepped_shape.specs.Refusals.{openNo, workNo};
 ghost use Rattle.stepped.specs.Says.{rowMet};
 ghost use Rattle.stepped.specs.History.{inOneGo};
 ghost use Rattle.filling.specs.Answers.{readingsIn};

@@ -1,5 +1,5 @@
 // What is kept from record to record, and what one record is answered with.
-use stepped::Layer;
+use stepped_shape::Layer;
 ghost use mathlib.Core.Path.{_≡_};
 ghost use Rattle.filling.specs.Kept.{begun};
 

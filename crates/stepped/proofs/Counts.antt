@@ -9,13 +9,13 @@ use lib.ListN.{length, getD, take, length-set}
 use lib.Seq.{getD-set-other}
 use lib.Ieee.{Float}
 use borrow.Author.Tests.{eq-eqb, ne-eqb}
-use Rattle.stepped.specs.declared.shape.Layer.{Layer}
-use Rattle.stepped.specs.Layer.{chunks, pieces, place, openCount, openOf}
-use Rattle.stepped.specs.Refusals.{workNo}
+use Rattle.stepped_shape.specs.declared.shape.Layer.{Layer}
+use Rattle.stepped_shape.specs.Layer.{chunks, pieces, place, openCount, openOf}
+use Rattle.stepped_shape.specs.Refusals.{workNo}
+use Rattle.stepped_shape.proofs.Shapes.{workable}
+use Rattle.stepped_shape.proofs.Marks.{open-more, open-set-take}
 use Rattle.stepped.specs.Says.{Work, work, marksOf, worked, marked, visit, visitRow, visitRows, runWork, ran, runSays}
-use Rattle.stepped.proofs.Shapes.{workable}
 use Rattle.stepped.proofs.Answers.{ran-done}
-use Rattle.stepped.proofs.Marks.{open-more, open-set-take}
 use Rattle.stepped.proofs.Runs.{visit-open, visit-done, visit-over}
 
 -- how many pieces a run did

@@ -1,6 +1,6 @@
 -- Demand 3: after any calls, each closed row has the bits of its dot in one go, and pieces accepted plus pieces open is the layer's piece count. Assumes nothing.
 use Prim.Native.Nat.{ℕ, zero, suc, _*_, _≤_, _<_}
-use mathlib.Core.Path.{_≡_, sym, ap, _∙_}
+use mathlib.Core.Path.{_≡_, refl, sym, ap, _∙_}
 use mathlib.Core.Logic.{⊎-elim}
 use mathlib.Core.List.{List, [], _∷_, List·Memᴰ, List·Memᴰ·cases-cons, List·Memᴰ·not-nil}
 use native.Mathlib.Omega.{arith}
@@ -19,14 +19,14 @@ use Rattle.layouts.specs.declared.format.Format.the-variants.{OfK}
 use Rattle.sums.specs.Tree.{tree}
 use Rattle.sums.specs.Rows.{rowSum}
 use Rattle.fused.proofs.Decoded.{row-decoded}
-use Rattle.stepped.specs.declared.shape.Layer.{Layer}
-use Rattle.stepped.specs.Layer.{chunks, pieces, place, rowOf, openOf, openInRow}
-use Rattle.stepped.specs.Refusals.{openNo, workNo, pieceNo, closeNo}
-use Rattle.stepped.specs.Ready.{InLayer}
+use Rattle.stepped_shape.specs.declared.shape.Layer.{Layer}
+use Rattle.stepped_shape.specs.Layer.{chunks, pieces, place, rowOf, openCount, openOf, openInRow}
+use Rattle.stepped_shape.specs.Refusals.{openNo, workNo, pieceNo, closeNo}
+use Rattle.stepped_shape.specs.Ready.{InLayer}
+use Rattle.stepped_shape.proofs.Shapes.{place-within, row-within, openable, pieceable, closable}
+use Rattle.stepped_shape.proofs.Marks.{open-append, open-set-take, none-open}
 use Rattle.stepped.specs.Says.{noSum, noMark, Work, work, slotsOf, marksOf, sumAt, worked, marked, visit, visitRow, visitRows, runWork, openSays, pieceSays, runSays, rowMet, closeSays}
 use Rattle.stepped.specs.History.{decodedRow, inOneGo, Call, piece, run, close, State, call, calls, opened, Demand3}
-use Rattle.stepped.proofs.Shapes.{place-within, row-within, openable, pieceable, closable}
-use Rattle.stepped.proofs.Marks.{open-set-take, none-open, all-open}
 use Rattle.stepped.proofs.Answers.{ran-done, ran-refused}
 use Rattle.stepped.proofs.Runs.{visit-open, visit-done, visit-over}
 use Rattle.stepped.proofs.Counts.{run-counts}
@@ -49,6 +49,13 @@ unfolding place
 same-chunk l r c r' c' g e =
     let m : r * chunks l ≡ r' * chunks l = ap (λ (k : ℕ). k * chunks l) g in
     omega arith
+
+-- ---- cleared marks are open
+
+all-open : (n : ℕ) → openCount (table noMark n) ≡ n
+unfolding openCount table
+all-open zero = refl
+all-open (suc n) = open-append (table noMark n) (0 ∷ []) ∙ omega (arith, all-open n)
 
 -- ---- a row whose slots are its chunk sums meets in its dot in one go
 

@@ -1,20 +1,13 @@
--- Parts of lent memory, as the code gives their start and end. Assumes nothing.
-use Prim.Native.Nat.{ℕ, _+_, _-_, _*_, _≤_}
+-- The front of lent memory that is filled. Assumes nothing.
+use Prim.Native.Nat.{ℕ, _≤_}
 use mathlib.Core.Path.{_≡_, ap, _∙_}
 use mathlib.Core.List.{List, _++_}
-use native.Mathlib.Omega.{arith}
 use lib.ListN.{length, take, drop}
 use lib.Seq.{take-at, length-take-le}
-use Rattle.memory.specs.Lists.{table, filled, part}
+use Rattle.memory.specs.Lists.{table, filled}
 use Rattle.memory.proofs.Filled.{length-table}
 
 module _ {A : Type 0} where
-  -- a row of n places, where a row has m
-  pub row-part : (xs : List A) (row n m : ℕ) → n ≡ m → take (row * n + n - row * n) (drop (row * n) xs) ≡ part xs (row * m) m
-  row-part xs row n m e =
-      let g : row * m + m - row * m ≡ m = omega arith in
-      rw (e, g)
-
   -- the front of n places was lent and is a table now
   pub front-filled : (f : ℕ → A) (xs front : List A) (n m : ℕ) → n ≡ m → n ≤ length xs → front ≡ table f (length (take n xs)) → front ++ drop n xs ≡ filled f xs m
   front-filled f xs front n m e h t = ap (λ (ys : List A). ys ++ drop n xs) (t ∙ ap (table f) (length-take-le n xs h)) ∙ ap (filled f xs) e

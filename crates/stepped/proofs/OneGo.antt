@@ -22,12 +22,12 @@ use Rattle.sums.specs.Says.{dotSays}
 use Rattle.sums.proofs.TreeLaws.{tree-none}
 use Rattle.fused.specs.Says.{fusedSays}
 use Rattle.fused.proofs.Decoded.{dot-of-weights}
-use Rattle.stepped.specs.declared.shape.Layer.{Layer}
-use Rattle.stepped.specs.Layer.{chunks, pieces, rowBytes, rowOf}
-use Rattle.stepped.specs.Ready.{Ready}
+use Rattle.stepped_shape.specs.declared.shape.Layer.{Layer}
+use Rattle.stepped_shape.specs.Layer.{chunks, pieces, rowBytes, rowOf}
+use Rattle.stepped_shape.specs.Ready.{Ready}
+use Rattle.stepped_shape.proofs.Shapes.{shaped, bytes-within, row-enough}
 use Rattle.stepped.specs.Says.{rowMet}
 use Rattle.stepped.specs.History.{decodedRow, inOneGo}
-use Rattle.stepped.proofs.Shapes.{shaped, bytes-within, row-enough}
 
 -- ---- an in_feat of 0 has no pieces, and every row closes at +0.0
 

@@ -8,8 +8,8 @@ use native.Mathlib.Nat.{zero-add, suc-add, le-refl}
 use lib.ListN.{length, getD, length-set}
 use lib.Ieee.{Float}
 use borrow.Author.Tests.{eq-eqb, ne-eqb, lt-ltb, le-ltb}
-use Rattle.stepped.specs.declared.shape.Layer.{Layer}
-use Rattle.stepped.specs.Layer.{chunks, place}
+use Rattle.stepped_shape.specs.declared.shape.Layer.{Layer}
+use Rattle.stepped_shape.specs.Layer.{chunks, place}
 use Rattle.stepped.specs.Says.{Work, work, worked, marked, visit, visitRow, visitRows}
 
 -- what the loops keep: both lists' lengths, at most the budget, and the state that the visits so far give

@@ -11,8 +11,8 @@ use Rattle.layouts.specs.Weights.{weightAt}
 use Rattle.layouts.specs.declared.format.Format.the-variants.{OfK}
 use Rattle.sums.specs.Lanes.{products}
 use Rattle.sums.specs.Rows.{rowSum}
-use Rattle.stepped.specs.declared.shape.Layer.{Layer}
-use Rattle.stepped.specs.Layer.{pieces, rowOf, openOf}
+use Rattle.stepped_shape.specs.declared.shape.Layer.{Layer}
+use Rattle.stepped_shape.specs.Layer.{pieces, rowOf, openOf}
 use Rattle.stepped.specs.Says as says
 use Rattle.stepped.specs.Says.{RunSaid, openSays, pieceSays, runSays, closeSays}
 

@@ -1,6 +1,3 @@
--- Document 01's "The stepped layer": its shape, its refusals, its calls, and demand 3.
-pub mod Layer
-pub mod Refusals
-pub mod Ready
+-- Document 01's "The stepped layer": its calls, and demand 3.
 pub mod Says
 pub mod History

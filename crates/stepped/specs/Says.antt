@@ -13,11 +13,11 @@ use Rattle.layouts.specs.Formats.{formatOf}
 use Rattle.sums.specs.Tree.{tree}
 use Rattle.sums.specs.Rows.{chunkAt}
 use Rattle.fused.specs.Terms.{terms}
-use Rattle.stepped.specs.declared.shape.Layer.{Layer}
+use Rattle.stepped_shape.specs.declared.shape.Layer.{Layer}
+use Rattle.stepped_shape.specs.Layer.{chunks, pieces, place, rowOf, openOf}
+use Rattle.stepped_shape.specs.Refusals.{openNo, workNo, pieceNo, closeNo}
 use Rattle.stepped.specs.declared.running.Progress.{Progress}
 use Rattle.stepped.specs.declared.running.Progress.the-variants as progress
-use Rattle.stepped.specs.Layer.{chunks, pieces, place, rowOf, openOf}
-use Rattle.stepped.specs.Refusals.{openNo, workNo, pieceNo, closeNo}
 
 -- ---- open clears marks to 0 and slots to +0.0
 

@@ -1,15 +1,15 @@
 // Close: a row's slots, met in the tree, are its output.
-use crate::checks::close_no;
-use crate::shape::Layer;
-use crate::shape::chunks_of;
 use refusals::Outcome;
+use stepped_shape::Layer;
+use stepped_shape::chunks_of;
+use stepped_shape::close_no;
 ghost use mathlib.Core.Path.{_≡_};
 ghost use Prim.Native.Nat.{_<_, _≤_};
 ghost use lib.ListN.{length};
 ghost use Rattle.refusals.specs.Refusals.{none};
 ghost use Rattle.refusals.specs.Said.{outcomeSays};
-ghost use Rattle.stepped.specs.Layer.{pieces};
-ghost use Rattle.stepped.specs.Refusals.{shapeNo};
+ghost use Rattle.stepped_shape.specs.Layer.{pieces};
+ghost use Rattle.stepped_shape.specs.Refusals.{shapeNo};
 ghost use Rattle.stepped.specs.Says.{rowMet, closeSays};
 
 // The row's slots met in the tree, which works in a copy: the slots stay. One slot is its own sum, and needs no copy.

@@ -1,8 +1,8 @@
 // Open: marks to 0 and slots to +0.0.
-use crate::checks::open_no;
-use crate::shape::Layer;
-use crate::shape::pieces_of;
 use refusals::Outcome;
+use stepped_shape::Layer;
+use stepped_shape::open_no;
+use stepped_shape::pieces_of;
 ghost use mathlib.Core.Path.{_≡_};
 ghost use lib.ListN.{length};
 ghost use Rattle.refusals.specs.Said.{outcomeSays};

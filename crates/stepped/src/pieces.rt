@@ -1,13 +1,13 @@
 // Piece: one chunk of one row, into its own slot.
-use crate::checks::piece_no;
-use crate::shape::Layer;
-use crate::shape::place_of;
-use crate::shape::row_bytes;
 use refusals::Outcome;
+use stepped_shape::Layer;
+use stepped_shape::piece_no;
+use stepped_shape::place_of;
+use stepped_shape::row_bytes;
 ghost use mathlib.Core.Path.{_≡_};
 ghost use lib.ListN.{length};
 ghost use Rattle.refusals.specs.Said.{outcomeSays};
-ghost use Rattle.stepped.specs.Ready.{Ready, Room, InLayer};
+ghost use Rattle.stepped_shape.specs.Ready.{Ready, Room, InLayer};
 ghost use Rattle.stepped.specs.Says.{sumAt, worked, marked, pieceSays};
 
 // The sum of one chunk of one row.

@@ -1,14 +1,14 @@
 // Run: the next open pieces, as many as a budget allows.
-use crate::checks::count_open;
-use crate::checks::work_no;
 use crate::pieces::work_one;
-use crate::shape::Layer;
-use crate::shape::chunks_of;
-use crate::shape::pieces_of;
-use crate::shape::place_of;
+use stepped_shape::Layer;
+use stepped_shape::chunks_of;
+use stepped_shape::count_open;
+use stepped_shape::pieces_of;
+use stepped_shape::place_of;
+use stepped_shape::work_no;
 ghost use mathlib.Core.Path.{_≡_};
 ghost use lib.ListN.{length};
-ghost use Rattle.stepped.specs.Ready.{Ready, Room};
+ghost use Rattle.stepped_shape.specs.Ready.{Ready, Room};
 ghost use Rattle.stepped.specs.Says.{work, runWork, progressSays, runSays};
 
 // What run answers: how many pieces it did and how many stay open, or a number that says no.

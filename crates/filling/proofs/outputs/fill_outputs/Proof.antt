@@ -6,8 +6,8 @@ use mathlib.Core.List.{List}
 use lib.ListN.{length}
 use lib.Ieee.{Float}
 use Rattle.refusals.specs.Said.{Said, done, outcomeSays}
+use Rattle.stepped_shape.proofs.Shapes.{workable}
 use Rattle.stepped.specs.Says.{progressSays}
-use Rattle.stepped.proofs.Shapes.{workable}
 use Rattle.refusals.proofs.Laws.{never-refused}
 use Rattle.filling.proofs.Rows.{open-done, Worked, worked}
 use Rattle.filling.proofs.outputs.fill_outputs.Statement.{statement}

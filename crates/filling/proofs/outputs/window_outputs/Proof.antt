@@ -9,7 +9,7 @@ use lib.Seq.{length-take-le, take-at}
 use lib.Ieee.{Float}
 use Rattle.memory.specs.Lists.{table, filled}
 use Rattle.memory.proofs.Filled.{length-table}
-use Rattle.stepped.specs.Refusals.{workNo}
+use Rattle.stepped_shape.specs.Refusals.{workNo}
 use Rattle.stepped.specs.History.{inOneGo}
 use Rattle.records.specs.Kinds.{readingAt}
 use Rattle.filling.specs.Answers.{readingsIn}

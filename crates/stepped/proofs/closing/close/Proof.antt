@@ -5,9 +5,9 @@ use mathlib.Core.Path.{_≡_, sym, ap, _∙_}
 use lib.ListN.{length, set}
 use lib.Ieee.{Float}
 use denote.Ref.{now}
-use Rattle.stepped.specs.Refusals.{closeNo}
+use Rattle.stepped_shape.specs.Refusals.{closeNo}
+use Rattle.stepped_shape.proofs.Shapes.{closable}
 use Rattle.stepped.specs.Says.{closeSays}
-use Rattle.stepped.proofs.Shapes.{closable}
 use Rattle.stepped.proofs.Answers.{says-refused, says-done}
 use Rattle.stepped.proofs.closing.close.Statement.{statement}
 use Rattle.stepped.proofs.closing.close.Tie as tie

@@ -11,10 +11,10 @@ use denote.Ref.{now}
 use Rattle.memory.specs.Lists.{table}
 use Rattle.memory.proofs.Filled.{Filling, filling-start, filling-more}
 use Rattle.sums.specs.Tree.{pairUp, met, tree}
-use Rattle.stepped.specs.Layer.{chunks, pieces, place}
+use Rattle.stepped_shape.specs.Layer.{chunks, pieces, place}
+use Rattle.stepped_shape.proofs.Shapes.{row-within, few-chunks, few-pieces}
 use Rattle.stepped.specs.Says.{rowMet}
 use Rattle.stepped.proofs.Lists.{filled-front}
-use Rattle.stepped.proofs.Shapes.{row-within, few-chunks, few-pieces}
 use Rattle.stepped.proofs.closing.meet.Statement.{statement}
 use Rattle.stepped.proofs.closing.meet.Tie as tie
 

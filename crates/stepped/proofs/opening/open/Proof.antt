@@ -5,11 +5,11 @@ use mathlib.Core.Path.{_≡_, sym, _∙_}
 use lib.ListN.{length}
 use lib.Seq.{length-take-le}
 use denote.Ref.{now}
-use Rattle.stepped.specs.Layer.{pieces}
-use Rattle.stepped.specs.Refusals.{openNo}
+use Rattle.stepped_shape.specs.Layer.{pieces}
+use Rattle.stepped_shape.specs.Refusals.{openNo}
+use Rattle.stepped_shape.proofs.Shapes.{openable}
 use Rattle.stepped.specs.Says.{noSum, noMark, openSays}
 use Rattle.stepped.proofs.Lists.{front-filled}
-use Rattle.stepped.proofs.Shapes.{openable}
 use Rattle.stepped.proofs.Answers.{says-refused, says-done}
 use Rattle.stepped.proofs.opening.open.Statement.{statement}
 use Rattle.stepped.proofs.opening.open.Tie as tie

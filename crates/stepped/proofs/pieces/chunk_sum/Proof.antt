@@ -10,10 +10,9 @@ use Rattle.memory.proofs.Filled.{part-length}
 use Rattle.layouts.specs.declared.format.FormatK.{FormatK}
 use Rattle.sums.specs.Rows.{chunkAt}
 use Rattle.fused.specs.Terms.{terms}
-use Rattle.stepped.specs.Layer.{chunks, rowBytes, rowOf}
+use Rattle.stepped_shape.specs.Layer.{chunks, rowBytes, rowOf}
+use Rattle.stepped_shape.proofs.Shapes.{shaped, bytes-within, row-enough, row-part}
 use Rattle.stepped.specs.Says.{sumAt}
-use Rattle.stepped.proofs.Shapes.{shaped, bytes-within, row-enough}
-use Rattle.stepped.proofs.Lists.{row-part}
 use Rattle.stepped.proofs.pieces.chunk_sum.Statement.{statement}
 use Rattle.stepped.proofs.pieces.chunk_sum.Tie as tie
 

@@ -3,9 +3,9 @@ use borrow.Author.Needs.{needs}
 use mathlib.Core.Path.{_≡_, sym, _∙_}
 use lib.ListN.{length}
 use denote.Ref.{now}
-use Rattle.stepped.specs.Refusals.{pieceNo}
+use Rattle.stepped_shape.specs.Refusals.{pieceNo}
+use Rattle.stepped_shape.proofs.Shapes.{pieceable}
 use Rattle.stepped.specs.Says.{pieceSays}
-use Rattle.stepped.proofs.Shapes.{pieceable}
 use Rattle.stepped.proofs.Answers.{says-refused, says-done}
 use Rattle.stepped.proofs.pieces.piece.Statement.{statement}
 use Rattle.stepped.proofs.pieces.piece.Tie as tie

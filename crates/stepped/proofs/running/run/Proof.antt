@@ -6,10 +6,10 @@ use Prim.Native.Nat.{ℕ}
 use lib.ListN.{length, take}
 use lib.Seq.{length-take-le}
 use denote.Ref.{now}
-use Rattle.stepped.specs.Layer.{openCount, openOf}
-use Rattle.stepped.specs.Refusals.{workNo}
+use Rattle.stepped_shape.specs.Layer.{openCount, openOf}
+use Rattle.stepped_shape.specs.Refusals.{workNo}
+use Rattle.stepped_shape.proofs.Shapes.{workable, few-pieces}
 use Rattle.stepped.specs.Says.{runSays}
-use Rattle.stepped.proofs.Shapes.{workable, few-pieces}
 use Rattle.stepped.proofs.Answers.{ran-refused}
 use Rattle.stepped.proofs.Counts.{run-done}
 use Rattle.stepped.proofs.running.run.Statement.{statement}

@@ -5,9 +5,9 @@ use mathlib.Core.Logic.{⊎-elim}
 use mathlib.Core.Path.{_≡_, refl, sym, _∙_, ap}
 use Prim.Native.Nat.{ℕ, _≤_, _<_, _-_}
 use denote.Ref.{now}
-use Rattle.stepped.specs.Ready.{InLayer}
+use Rattle.stepped_shape.specs.Ready.{InLayer}
+use Rattle.stepped_shape.proofs.Shapes.{place-within}
 use Rattle.stepped.specs.Says.{Work, work, visitRow, visitRows, runWork}
-use Rattle.stepped.proofs.Shapes.{place-within}
 use Rattle.stepped.proofs.Runs.{Kept, kept-open, kept-done, kept-row, stopped, ne-lt}
 use Rattle.stepped.proofs.running.work_open.Statement.{statement}
 use Rattle.stepped.proofs.running.work_open.Tie as tie

@@ -1,0 +1,58 @@
+-- A layer has a format, in_feat and out_feat, one reading row, a slot and a mark per (row, chunk), row-major. Definitions only.
+use Prim.Native.Nat.{ℕ, _+_, _*_}
+use mathlib.Core.Bool.{cond}
+use mathlib.Core.List.{List, [], _∷_}
+use lib.Dec.{eqb}
+use lib.ListN.{take}
+use Rattle.memory.specs.Lists.{part}
+use Rattle.layouts.specs.Formats.{formatOf}
+use Rattle.shapes.specs.Shapes as shapes
+use Rattle.sums.specs.Rows.{chunksIn}
+use Rattle.stepped_shape.specs.declared.shape.Layer.{Layer}
+
+-- ---- the pieces
+
+-- the chunks of a row: none where in_feat is 0
+unfoldable pub chunks : Layer → ℕ
+chunks l = chunksIn (l .«in_feat»)
+
+-- the piece count
+unfoldable pub pieces : Layer → ℕ
+pieces l = l .«out_feat» * chunks l
+
+-- the place of (row, chunk) among slots and marks, row-major
+unfoldable pub place : Layer → ℕ → ℕ → ℕ
+place l row c = row * chunks l + c
+
+-- ---- the weights
+
+-- the bytes of a row's weights
+unfoldable pub rowBytes : Layer → ℕ
+rowBytes l = shapes.rowBytes (formatOf (l .format)) (l .«in_feat»)
+
+-- the bytes of all rows' weights
+unfoldable pub weightNeed : Layer → ℕ
+weightNeed l = l .«out_feat» * rowBytes l
+
+-- a row of the weights w
+abbrev pub rowOf : Layer → List ℕ → ℕ → List ℕ
+rowOf l w row = part w (row * rowBytes l) (rowBytes l)
+
+-- ---- the marks
+
+-- a nonzero mark means done: 1 for a piece that is open, 0 for one that is done
+abbrev pub isOpen : ℕ → ℕ
+isOpen mark = cond (eqb mark 0) 1 0
+
+-- how many of these marks are open
+unfoldable pub openCount : List ℕ → ℕ
+openCount [] = 0
+openCount (m ∷ ms) = isOpen m + openCount ms
+
+-- how many of the layer's pieces are open
+unfoldable pub openOf : Layer → List ℕ → ℕ
+openOf l marks = openCount (take (pieces l) marks)
+
+-- how many pieces of a row are open
+unfoldable pub openInRow : Layer → List ℕ → ℕ → ℕ
+openInRow l marks row = openCount (part marks (row * chunks l) (chunks l))

@@ -1,0 +1,54 @@
+// A layer's shape: its pieces, and where their slots, their marks and their rows' weights lie.
+ghost use mathlib.Core.Path.{_≡_};
+ghost use Prim.Native.Nat.{_<_};
+ghost use Rattle.refusals.specs.Refusals.{none};
+ghost use Rattle.stepped_shape.specs.Layer.{chunks, pieces, place, rowBytes, weightNeed};
+ghost use Rattle.stepped_shape.specs.Refusals.{shapeNo};
+ghost use Rattle.stepped_shape.specs.Ready.{InLayer};
+
+// A format byte (4 is Q4_K, 6 is Q6_K), and how many readings go in and outputs come out.
+pub struct Layer {
+    pub format: u8,
+    pub in_feat: usize,
+    pub out_feat: usize,
+}
+
+// The chunks of a row.
+pub fn chunks_of(l: Layer) -> usize
+    requires { ⌜ shapeNo l ≡ none ⌝ }
+    ensures { λ r. ⌜ r ≡ chunks l ⌝ }
+{
+    sums::chunks_in(l.in_feat)
+}
+
+// The piece count.
+pub fn pieces_of(l: Layer) -> usize
+    requires { ⌜ shapeNo l ≡ none ⌝ }
+    ensures { λ r. ⌜ r ≡ pieces l ⌝ }
+{
+    l.out_feat * chunks_of(l)
+}
+
+// The place of (row, chunk) among slots and marks.
+pub fn place_of(l: Layer, row: usize, chunk: usize) -> usize
+    requires { ⌜ (shapeNo l ≡ none) × InLayer l row chunk ⌝ }
+    ensures { λ r. ⌜ (r ≡ place l row chunk) × (r < pieces l) ⌝ }
+{
+    row * chunks_of(l) + chunk
+}
+
+// The bytes of a row's weights.
+pub fn row_bytes(l: Layer) -> usize
+    requires { ⌜ shapeNo l ≡ none ⌝ }
+    ensures { λ r. ⌜ r ≡ rowBytes l ⌝ }
+{
+    shapes::row_bytes(layouts::format_of(l.format), l.in_feat)
+}
+
+// The bytes of all rows' weights.
+pub(crate) fn weight_need(l: Layer) -> usize
+    requires { ⌜ shapeNo l ≡ none ⌝ }
+    ensures { λ r. ⌜ r ≡ weightNeed l ⌝ }
+{
+    l.out_feat * row_bytes(l)
+}
