@@ -1,11 +1,6 @@
--- How C names a stepped layer, and how it is handed what run says: as a number that is returned, and two counts that go through pointers. Definitions only.
+-- How C is handed what run says: as a number that is returned, and two counts that go through pointers. Definitions only.
 use Prim.Native.Nat.{ℕ}
-use Rattle.stepped_shape.specs.declared.shape.Layer.{Layer}
 use Rattle.stepped.specs.Says.{RunSaid, ran, refused}
-
--- the layer of a call's first three parameters
-abbrev pub layerOf : (format inFeat outFeat : ℕ) → Layer
-layerOf format inFeat outFeat = record { format = format; «in_feat» = inFeat; «out_feat» = outFeat }
 
 -- what is returned of run, beside the counts that stand behind the pointers then: how many it did and how many stay open, and where it refused what stood there
 unfoldable pub countsLaidOut : RunSaid → ℕ × ℕ → ℕ × (ℕ × ℕ)

@@ -3,9 +3,10 @@ use crate::answers::number_of;
 use stepped::Progress;
 use stepped_shape::Layer;
 ghost use mathlib.Core.Path.{_≡_};
+ghost use Rattle.stepped_shape.specs.Layer.{layerOf};
 ghost use Rattle.stepped.specs.Says.{progressSays, openSays, pieceSays, runSays, closeSays};
 ghost use Rattle.exports.specs.Answers.{numbered};
-ghost use Rattle.exports.specs.Stepped.{layerOf, countsLaidOut, runLaidOut};
+ghost use Rattle.exports.specs.Stepped.{countsLaidOut, runLaidOut};
 
 // The number of run, whose two counts are stored where it has them.
 fn lay_out_counts(progress: Progress, done: &mut usize, left: &mut usize) -> u32

@@ -4,13 +4,13 @@ use mathlib.Core.Path.{_≡_, refl, sym, subst}
 use lib.Dec.{lit≤}
 use Rattle.refusals.specs.Refusals.{given}
 use Rattle.layouts.specs.Formats.{formatOf}
-use Rattle.stepped_shape.specs.Layer.{rowBytes, weightNeed}
+use Rattle.stepped_shape.specs.Layer.{layerRowBytes, weightNeed}
 use Rattle.stepped_shape.specs.Refusals.{shapeNo}
 use Rattle.filling.specs.declared.state.State.{State}
 use Rattle.filling.specs.Kept.{Held, begun}
 
 pub begun-held : Held begun
-unfolding given formatOf rowBytes weightNeed shapeNo
+unfolding given formatOf layerRowBytes weightNeed shapeNo
 begun-held = record { shape = refl; inputs = lit≤ tt; outputs = lit≤ tt; weighed = refl }
 
 pub begins : (st : State) → st ≡ begun → Held st × (st .offset ≡ 0) × (st .answered + st .refused ≡ 0)

@@ -10,14 +10,14 @@ use lib.ListN.{length, drop, length-drop}
 use Rattle.refusals.specs.Refusals.{none}
 use Rattle.refusals.specs.Sizes.{mostIn, mostOut}
 use Rattle.refusals.proofs.Laws.{given-no, else-later}
-use Rattle.stepped_shape.specs.Layer.{chunks, pieces, rowBytes, weightNeed}
+use Rattle.stepped_shape.specs.Layer.{layerOf, chunks, pieces, layerRowBytes, weightNeed}
 use Rattle.stepped_shape.specs.Refusals.{shapeNo, roomNo, workNo}
 use Rattle.records.specs.Frame.{payloadAt}
 use Rattle.records.specs.Kinds.{weightBytes}
 use Rattle.records.specs.Found.{Found, ended, layer, window, warmUp, refused, foundAt, later}
 use Rattle.records.proofs.Read.{few-weights, layer-read, window-read, warm-up-read}
 use Rattle.filling.specs.declared.state.State.{State}
-use Rattle.filling.specs.Kept.{layerOf, Held}
+use Rattle.filling.specs.Kept.{Held}
 use Rattle.filling.specs.Answers.{respond, answerTo}
 
 -- a layer of at most 2,048 readings has one chunk a row, and at most 16 pieces
@@ -29,7 +29,7 @@ few-pieces st h =
 
 -- its weights have at most 26,880 bytes
 pub kept-within : (st : State) → Held st → st .«weight_bytes» ≤ 26880
-unfolding weightNeed rowBytes weightBytes
+unfolding weightNeed layerRowBytes weightBytes
 kept-within st h = rw (h .weighed) (few-weights (st .layer .format) (st .layer .«in_feat») (st .layer .«out_feat») (h .inputs) (h .outputs))
 
 pub workable : (st : State) (weights : ℕ) → Held st → weights ≡ st .«weight_bytes» → workNo (st .layer) weights (st .layer .«in_feat») 16 16 ≡ none
@@ -48,7 +48,7 @@ workable st weights h e =
 -- a layer record's layer is held
 layer-held : (s : List ℕ) (i latest format inFeat outFeat next : ℕ) (offset answered refused : ℕ) → foundAt s i latest ≡ layer format inFeat outFeat next
     → Held (record { layer = layerOf format inFeat outFeat; «weight_bytes» = length (drop 9 (payloadAt s i)); offset = offset; answered = answered; refused = refused })
-unfolding shapeNo weightNeed rowBytes weightBytes
+unfolding shapeNo weightNeed layerRowBytes weightBytes
 layer-held s i latest format inFeat outFeat next offset yes-count no-count e =
     let r = layer-read s i latest format inFeat outFeat next e in
     record {

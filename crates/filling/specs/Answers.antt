@@ -7,6 +7,7 @@ use lib.ListN.{length, drop}
 use lib.Ieee.{Float}
 use Rattle.memory.specs.Lists.{table}
 use Rattle.stepped_shape.specs.declared.shape.Layer.{Layer}
+use Rattle.stepped_shape.specs.Layer.{layerOf}
 use Rattle.stepped.specs.History.{inOneGo}
 use Rattle.records.specs.Frame.{payloadAt}
 use Rattle.records.specs.Kinds.{readingAt}
@@ -15,7 +16,6 @@ use Rattle.lines.specs.Text.{laid}
 use Rattle.lines.specs.Lines.{layerLine, windowLine, refusedLine, stopLine, endLine}
 use Rattle.filling.specs.declared.state.State.{State}
 use Rattle.filling.specs.declared.state.Reply.{Reply}
-use Rattle.filling.specs.Kept.{layerOf}
 
 -- the text of the line, what is kept then, the latest layer's weights, and whether nothing more is answered
 pub record Response : Type 0 where

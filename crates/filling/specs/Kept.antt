@@ -2,14 +2,9 @@
 use Prim.Native.Nat.{ℕ, _+_, _^_, _≤_, _<_}
 use mathlib.Core.Path.{_≡_}
 use Rattle.refusals.specs.Refusals.{none}
-use Rattle.stepped_shape.specs.declared.shape.Layer.{Layer}
-use Rattle.stepped_shape.specs.Layer.{weightNeed}
+use Rattle.stepped_shape.specs.Layer.{layerOf, weightNeed}
 use Rattle.stepped_shape.specs.Refusals.{shapeNo}
 use Rattle.filling.specs.declared.state.State.{State}
-
--- the layer of a layer record
-abbrev pub layerOf : (format inFeat outFeat : ℕ) → Layer
-layerOf format inFeat outFeat = record { format = format; «in_feat» = inFeat; «out_feat» = outFeat }
 
 -- before the first record: no layer, which stands as one of no readings and no outputs
 abbrev pub begun : State

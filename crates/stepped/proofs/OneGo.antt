@@ -23,8 +23,8 @@ use Rattle.sums.proofs.TreeLaws.{tree-none}
 use Rattle.fused.specs.Says.{fusedSays}
 use Rattle.fused.proofs.Decoded.{dot-of-weights}
 use Rattle.stepped_shape.specs.declared.shape.Layer.{Layer}
-use Rattle.stepped_shape.specs.Layer.{chunks, pieces, rowBytes, rowOf}
-use Rattle.stepped_shape.specs.Ready.{Ready}
+use Rattle.stepped_shape.specs.Layer.{chunks, pieces, layerRowBytes, rowOf}
+use Rattle.stepped_shape.specs.Ready.{LayerReady}
 use Rattle.stepped_shape.proofs.Shapes.{shaped, bytes-within, row-enough}
 use Rattle.stepped.specs.Says.{rowMet}
 use Rattle.stepped.specs.History.{decodedRow, inOneGo}
@@ -57,16 +57,16 @@ dot-answered x y n m u v = by (ℕ-discrete n 0)
     by (yes z) = rw z refl
     by (no z) = simp (le-ltb _ _ m, ne-eqb _ _ z, le-ltb _ _ v, le-ltb _ _ u)
 
-module _ (l : Layer) (w : List ℕ) (x : List Float) (row : ℕ) (ready : Ready l (length w) (length x)) (inside : row < l .«out_feat») where
+module _ (l : Layer) (w : List ℕ) (x : List Float) (row : ℕ) (ready : LayerReady l (length w) (length x)) (inside : row < l .«out_feat») where
   pub dot-in-one-go : dotSays x (decodedRow l w row) (l .«in_feat») ≡ value (inOneGo l w x row)
   unfolding inOneGo decodedRow
   dot-in-one-go = dot-answered x (decodedRow l w row) (l .«in_feat») (shaped l (ready .shape) .inputs) (ready .readings-enough) (rw length-table (le-refl _))
 
-  row-length : length (rowOf l w row) ≡ rowBytes l
-  row-length = length-take-le (rowBytes l) (drop (row * rowBytes l) w) (rw length-drop (omega (arith, bytes-within l row (length w) inside (ready .weights-enough))))
+  row-length : length (rowOf l w row) ≡ layerRowBytes l
+  row-length = length-take-le (layerRowBytes l) (drop (row * layerRowBytes l) w) (rw length-drop (omega (arith, bytes-within l row (length w) inside (ready .weights-enough))))
 
   row-whole : length (rowOf l w row) % bytesK (formatOf (l .format)) ≡ 0
-  unfolding rowBytes
+  unfolding layerRowBytes
   row-whole = ap (λ (n : ℕ). n % bytesK (formatOf (l .format))) row-length ∙ mul-mod-left (l .«in_feat» / 256) (bytesK (formatOf (l .format)))
 
   pub fused-in-one-go : fusedSays (formatOf (l .format)) x (rowOf l w row) (l .«in_feat») ≡ value (inOneGo l w x row)

@@ -7,12 +7,12 @@ use stepped_shape::row_bytes;
 ghost use mathlib.Core.Path.{_≡_};
 ghost use lib.ListN.{length};
 ghost use Rattle.refusals.specs.Said.{outcomeSays};
-ghost use Rattle.stepped_shape.specs.Ready.{Ready, Room, InLayer};
+ghost use Rattle.stepped_shape.specs.Ready.{LayerReady, PieceRoom, InLayer};
 ghost use Rattle.stepped.specs.Says.{sumAt, worked, marked, pieceSays};
 
 // The sum of one chunk of one row.
 fn chunk_sum(l: Layer, w: &[u8], x: &[f32], row: usize, chunk: usize) -> f32
-    requires { ⌜ Ready l (length (now w)) (length (now x)) × InLayer l row chunk ⌝ }
+    requires { ⌜ LayerReady l (length (now w)) (length (now x)) × InLayer l row chunk ⌝ }
     ensures { λ r. ⌜ r ≡ sumAt l (now (w .entry)) (now (x .entry)) row chunk ⌝ }
 {
     let size = row_bytes(l);
@@ -37,7 +37,7 @@ pub(crate) fn work_one(
     slots: &mut [f32],
     marks: &mut [u8],
 )
-    requires { ⌜ Ready l (length (now w)) (length (now x)) × Room l (length (now slots)) (length (now marks)) × InLayer l row chunk ⌝ }
+    requires { ⌜ LayerReady l (length (now w)) (length (now x)) × PieceRoom l (length (now slots)) (length (now marks)) × InLayer l row chunk ⌝ }
     ensures { λ _. ⌜ now (slots .exit) ≡ worked l (now (w .entry)) (now (x .entry)) row chunk (now (slots .entry)) ⌝ }
     ensures { λ _. ⌜ now (marks .exit) ≡ marked l row chunk (now (marks .entry)) ⌝ }
 {

@@ -8,7 +8,7 @@ use stepped_shape::place_of;
 use stepped_shape::work_no;
 ghost use mathlib.Core.Path.{_≡_};
 ghost use lib.ListN.{length};
-ghost use Rattle.stepped_shape.specs.Ready.{Ready, Room};
+ghost use Rattle.stepped_shape.specs.Ready.{LayerReady, PieceRoom};
 ghost use Rattle.stepped.specs.Says.{work, runWork, progressSays, runSays};
 
 // What run answers: how many pieces it did and how many stay open, or a number that says no.
@@ -26,7 +26,7 @@ fn work_open(
     slots: &mut [f32],
     marks: &mut [u8],
 ) -> usize
-    requires { ⌜ Ready l (length (now w)) (length (now x)) × Room l (length (now slots)) (length (now marks)) ⌝ }
+    requires { ⌜ LayerReady l (length (now w)) (length (now x)) × PieceRoom l (length (now slots)) (length (now marks)) ⌝ }
     ensures { λ r. ⌜ work (now (slots .exit)) (now (marks .exit)) r ≡ runWork l (now (w .entry)) (now (x .entry)) budget (now (slots .entry)) (now (marks .entry)) ⌝ }
 {
     let rows = l.out_feat;

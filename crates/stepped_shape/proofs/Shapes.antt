@@ -19,9 +19,9 @@ use Rattle.layouts.specs.declared.format.Format.the-variants.{OfK}
 use Rattle.shapes.proofs.Fits.{row-small}
 use Rattle.shapes.proofs.Rows.{row-values}
 use Rattle.stepped_shape.specs.declared.shape.Layer.{Layer}
-use Rattle.stepped_shape.specs.Layer.{chunks, pieces, place, rowBytes, weightNeed, openInRow}
+use Rattle.stepped_shape.specs.Layer.{chunks, pieces, place, layerRowBytes, weightNeed, openInRow}
 use Rattle.stepped_shape.specs.Refusals.{shapeNo, roomNo, openNo, workNo, pieceNo, closeNo}
-use Rattle.stepped_shape.specs.Ready.{Ready, Room, InLayer}
+use Rattle.stepped_shape.specs.Ready.{LayerReady, PieceRoom, InLayer}
 
 -- ---- the shape
 
@@ -52,8 +52,8 @@ module _ (l : Layer) (ok : shapeNo l ≡ 0) where
   unfolding pieces
   few-pieces = mul-le-mul (shaped l ok .outputs) few-chunks
 
-  pub small-row : rowBytes l ≤ 107520
-  unfolding rowBytes
+  pub small-row : layerRowBytes l ≤ 107520
+  unfolding layerRowBytes
   small-row = row-small (formatOf (l .format)) (l .«in_feat») (shaped l ok .inputs)
 
   pub small-need : weightNeed l ≤ 7046430720
@@ -61,12 +61,12 @@ module _ (l : Layer) (ok : shapeNo l ≡ 0) where
   small-need = mul-le-mul (shaped l ok .outputs) small-row
 
   -- a row's bytes have its weights
-  row-weights : l .«in_feat» ≤ valuesOf (OfK (formatOf (l .format))) (rowBytes l)
-  unfolding rowBytes
+  row-weights : l .«in_feat» ≤ valuesOf (OfK (formatOf (l .format))) (layerRowBytes l)
+  unfolding layerRowBytes
   row-weights = le-of-eq (sym (row-values (formatOf (l .format)) (l .«in_feat») _ (shaped l ok .whole) refl .1))
 
 -- so do as many bytes, by the same format
-pub row-enough : (l : Layer) → shapeNo l ≡ 0 → (f : FormatK) (k : ℕ) → f ≡ formatOf (l .format) → k ≡ rowBytes l → l .«in_feat» ≤ valuesOf (OfK f) k
+pub row-enough : (l : Layer) → shapeNo l ≡ 0 → (f : FormatK) (k : ℕ) → f ≡ formatOf (l .format) → k ≡ layerRowBytes l → l .«in_feat» ≤ valuesOf (OfK f) k
 row-enough l ok f k F K = rw (F, K) (row-weights l ok)
 
 -- ---- where pieces and rows lie
@@ -81,9 +81,9 @@ unfolding place
 place-within l row c h = omega (arith, row-within l row (h .row-in), h .chunk-in)
 
 -- a row's bytes lie within the weights
-pub bytes-within : (l : Layer) (row weights : ℕ) → row < l .«out_feat» → weightNeed l ≤ weights → row * rowBytes l + rowBytes l ≤ weights
+pub bytes-within : (l : Layer) (row weights : ℕ) → row < l .«out_feat» → weightNeed l ≤ weights → row * layerRowBytes l + layerRowBytes l ≤ weights
 unfolding weightNeed
-bytes-within l row weights h r = within row (rowBytes l) (l .«out_feat») weights h r
+bytes-within l row weights h r = within row (layerRowBytes l) (l .«out_feat») weights h r
 
 -- a row of n places, where a row has m, as the code gives its start and end
 pub row-part : {A : Type 0} (xs : List A) (row n m : ℕ) → n ≡ m → take (row * n + n - row * n) (drop (row * n) xs) ≡ part xs (row * m) m
@@ -93,7 +93,7 @@ row-part xs row n m e =
 
 -- ---- the calls' checks
 
-pub room : (l : Layer) (slots marks : ℕ) → roomNo l slots marks ≡ 0 → Room l slots marks
+pub room : (l : Layer) (slots marks : ℕ) → roomNo l slots marks ≡ 0 → PieceRoom l slots marks
 unfolding roomNo
 room l slots marks h =
     let a = given-none 5 _ _ (lit< tt) h in
@@ -102,15 +102,15 @@ room l slots marks h =
 
 pub record Openable (l : Layer) (slots marks : ℕ) : Type 0 where
   pub shape : shapeNo l ≡ 0
-  pub has-room : Room l slots marks
+  pub has-room : PieceRoom l slots marks
 
 pub openable : (l : Layer) (slots marks : ℕ) → openNo l slots marks ≡ 0 → Openable l slots marks
 unfolding openNo
 openable l slots marks h = let a = else-none _ _ h in record { shape = a .0; has-room = room l slots marks (a .1) }
 
 pub record Workable (l : Layer) (weights readings slots marks : ℕ) : Type 0 where
-  pub ready : Ready l weights readings
-  pub has-room : Room l slots marks
+  pub ready : LayerReady l weights readings
+  pub has-room : PieceRoom l slots marks
 
 pub workable : (l : Layer) (weights readings slots marks : ℕ) → workNo l weights readings slots marks ≡ 0 → Workable l weights readings slots marks
 unfolding workNo

@@ -6,9 +6,13 @@ use lib.Dec.{eqb}
 use lib.ListN.{take}
 use Rattle.memory.specs.Lists.{part}
 use Rattle.layouts.specs.Formats.{formatOf}
-use Rattle.shapes.specs.Shapes as shapes
+use Rattle.shapes.specs.Shapes.{rowBytes}
 use Rattle.sums.specs.Rows.{chunksIn}
 use Rattle.stepped_shape.specs.declared.shape.Layer.{Layer}
+
+-- the layer of a format, in_feat and out_feat
+abbrev pub layerOf : (format inFeat outFeat : ℕ) → Layer
+layerOf format inFeat outFeat = record { format = format; «in_feat» = inFeat; «out_feat» = outFeat }
 
 -- ---- the pieces
 
@@ -27,16 +31,16 @@ place l row c = row * chunks l + c
 -- ---- the weights
 
 -- the bytes of a row's weights
-unfoldable pub rowBytes : Layer → ℕ
-rowBytes l = shapes.rowBytes (formatOf (l .format)) (l .«in_feat»)
+unfoldable pub layerRowBytes : Layer → ℕ
+layerRowBytes l = rowBytes (formatOf (l .format)) (l .«in_feat»)
 
 -- the bytes of all rows' weights
 unfoldable pub weightNeed : Layer → ℕ
-weightNeed l = l .«out_feat» * rowBytes l
+weightNeed l = l .«out_feat» * layerRowBytes l
 
 -- a row of the weights w
 abbrev pub rowOf : Layer → List ℕ → ℕ → List ℕ
-rowOf l w row = part w (row * rowBytes l) (rowBytes l)
+rowOf l w row = part w (row * layerRowBytes l) (layerRowBytes l)
 
 -- ---- the marks
 

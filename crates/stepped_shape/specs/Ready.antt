@@ -7,13 +7,13 @@ use Rattle.stepped_shape.specs.Layer.{chunks, pieces, weightNeed}
 use Rattle.stepped_shape.specs.Refusals.{shapeNo}
 
 -- the layer's shape, and weights and readings for all of it
-pub record Ready (l : Layer) (weights readings : ℕ) : Type 0 where
+pub record LayerReady (l : Layer) (weights readings : ℕ) : Type 0 where
   pub shape : shapeNo l ≡ none
   pub weights-enough : weightNeed l ≤ weights
   pub readings-enough : l .«in_feat» ≤ readings
 
 -- a slot and a mark for each piece
-pub record Room (l : Layer) (slots marks : ℕ) : Type 0 where
+pub record PieceRoom (l : Layer) (slots marks : ℕ) : Type 0 where
   pub slots-enough : pieces l ≤ slots
   pub marks-enough : pieces l ≤ marks
 

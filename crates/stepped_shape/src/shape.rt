@@ -2,7 +2,7 @@
 ghost use mathlib.Core.Path.{_≡_};
 ghost use Prim.Native.Nat.{_<_};
 ghost use Rattle.refusals.specs.Refusals.{none};
-ghost use Rattle.stepped_shape.specs.Layer.{chunks, pieces, place, rowBytes, weightNeed};
+ghost use Rattle.stepped_shape.specs.Layer.{chunks, pieces, place, layerRowBytes, weightNeed};
 ghost use Rattle.stepped_shape.specs.Refusals.{shapeNo};
 ghost use Rattle.stepped_shape.specs.Ready.{InLayer};
 
@@ -40,7 +40,7 @@ pub fn place_of(l: Layer, row: usize, chunk: usize) -> usize
 // The bytes of a row's weights.
 pub fn row_bytes(l: Layer) -> usize
     requires { ⌜ shapeNo l ≡ none ⌝ }
-    ensures { λ r. ⌜ r ≡ rowBytes l ⌝ }
+    ensures { λ r. ⌜ r ≡ layerRowBytes l ⌝ }
 {
     shapes::row_bytes(layouts::format_of(l.format), l.in_feat)
 }
