@@ -6,7 +6,8 @@ use layouts::Format32;
 use layouts::FormatK;
 ghost use mathlib.Core.Path.{_≡_};
 ghost use Rattle.shapes.specs.Shapes.{shape};
-ghost use Rattle.layers.specs.Says.{fusedLayerSays, cpuSays};
+ghost use Rattle.fused_layers.specs.Says.{fusedLayerSays};
+ghost use Rattle.cpu_layers.specs.Says.{cpuSays};
 ghost use Rattle.integer_layers.specs.Says.{integerLayerSays};
 ghost use Rattle.exports.specs.Answers.{numbered};
 
@@ -21,7 +22,7 @@ pub extern "C" fn jambharrow_linear_q4_k_fused(
 ) -> u32
     ensures { λ r. ⌜ (r, now (y .exit)) ≡ numbered (fusedLayerSays FormatK.Q4K (shape batch «in_feat» «out_feat») (now (x .entry)) (now (w .entry)) (now (y .entry))) ⌝ }
 {
-    number_of(layers::linear_q4_k_fused(x, w, y, batch, in_feat, out_feat))
+    number_of(fused_layers::linear_q4_k_fused(x, w, y, batch, in_feat, out_feat))
 }
 
 #[no_mangle]
@@ -35,7 +36,7 @@ pub extern "C" fn jambharrow_linear_q6_k_fused(
 ) -> u32
     ensures { λ r. ⌜ (r, now (y .exit)) ≡ numbered (fusedLayerSays FormatK.Q6K (shape batch «in_feat» «out_feat») (now (x .entry)) (now (w .entry)) (now (y .entry))) ⌝ }
 {
-    number_of(layers::linear_q6_k_fused(x, w, y, batch, in_feat, out_feat))
+    number_of(fused_layers::linear_q6_k_fused(x, w, y, batch, in_feat, out_feat))
 }
 
 #[no_mangle]
@@ -106,7 +107,7 @@ pub extern "C" fn jambharrow_linear_q4_k_cpu(
 ) -> u32
     ensures { λ r. ⌜ (r, (now (y .exit), now (scratch .exit))) ≡ numbered (cpuSays (Format.OfK FormatK.Q4K) (shape batch «in_feat» «out_feat») (now (x .entry)) (now (w .entry)) (now (y .entry)) (now (scratch .entry))) ⌝ }
 {
-    number_of(layers::linear_q4_k_cpu(x, w, y, scratch, batch, in_feat, out_feat))
+    number_of(cpu_layers::linear_q4_k_cpu(x, w, y, scratch, batch, in_feat, out_feat))
 }
 
 #[no_mangle]
@@ -121,7 +122,7 @@ pub extern "C" fn jambharrow_linear_q6_k_cpu(
 ) -> u32
     ensures { λ r. ⌜ (r, (now (y .exit), now (scratch .exit))) ≡ numbered (cpuSays (Format.OfK FormatK.Q6K) (shape batch «in_feat» «out_feat») (now (x .entry)) (now (w .entry)) (now (y .entry)) (now (scratch .entry))) ⌝ }
 {
-    number_of(layers::linear_q6_k_cpu(x, w, y, scratch, batch, in_feat, out_feat))
+    number_of(cpu_layers::linear_q6_k_cpu(x, w, y, scratch, batch, in_feat, out_feat))
 }
 
 #[no_mangle]
@@ -136,5 +137,5 @@ pub extern "C" fn jambharrow_linear_q4_0_cpu(
 ) -> u32
     ensures { λ r. ⌜ (r, (now (y .exit), now (scratch .exit))) ≡ numbered (cpuSays (Format.Of32 Format32.Q40) (shape batch «in_feat» «out_feat») (now (x .entry)) (now (w .entry)) (now (y .entry)) (now (scratch .entry))) ⌝ }
 {
-    number_of(layers::linear_q4_0_cpu(x, w, y, scratch, batch, in_feat, out_feat))
+    number_of(cpu_layers::linear_q4_0_cpu(x, w, y, scratch, batch, in_feat, out_feat))
 }

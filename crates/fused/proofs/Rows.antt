@@ -1,6 +1,6 @@
 -- A row's terms, read in its blocks and in its chunks, and where these lie in the row's bytes. Assumes nothing.
 use mathlib.Core.Path.{_≡_, sym, ap, _∙_}
-use Prim.Native.Nat.{ℕ, _+_, _-_, _*_, _/_, _%_, _^_, _≤_, _<_}
+use Prim.Native.Nat.{ℕ, _+_, _-_, _*_, _/_, _%_, _≤_, _<_}
 use native.Mathlib.Nat.{le-refl, one-mul, zero-mul, le-of-eq, le-div-iff-mul-le, mul-add-div-right}
 use native.Mathlib.Omega.{arith}
 use mathlib.Core.List.{List}
@@ -14,16 +14,10 @@ use Rattle.layouts.specs.Formats.{bytesK}
 use Rattle.layouts.specs.K.{valueK}
 use Rattle.layouts.specs.Weights.{weightAt, valuesOf}
 use Rattle.layouts.specs.declared.format.FormatK.{FormatK}
-use Rattle.layouts.specs.declared.format.FormatK.the-variants.{Q4K, Q6K}
 use Rattle.layouts.specs.declared.format.Format.the-variants.{OfK}
 use Rattle.layouts.proofs.Rows.{weight-skip, weight-front}
 use Rattle.layouts.proofs.Sizes.{sizes}
 use Rattle.fused.specs.Terms.{terms}
-
--- what the whole blocks of any slice of bytes have fits
-pub values-fit : (f : FormatK) (size n : ℕ) → size ≡ bytesK f → n < 2 ^ 63 → n / size * 256 < 2 ^ 64
-values-fit Q4K size n e h = rw e (omega arith)
-values-fit Q6K size n e h = rw e (omega arith)
 
 module _ (f : FormatK) where
   -- a block is a run of one block

@@ -6,42 +6,16 @@ use native.Mathlib.Nat.{not-suc-le-zero}
 use native.Mathlib.Omega.{arith}
 use borrow.Author.Count.{below-more}
 use lib.IntN.{ℤ, pos}
-use lib.ListN.{length, getD, take, drop, set, replicate, length-replicate, length-append, length-drop, List·getD-append}
-use lib.Seq.{getD-take, getD-set-same, getD-set-other, length-take-le, take-at, drop-at, ext-getD}
+use lib.ListN.{length, getD, take, drop, set, replicate, length-replicate}
+use lib.Seq.{getD-set-same, getD-set-other}
 use lib.Ieee.{Float, nan}
 use Rattle.memory.specs.Lists.{part}
-use Rattle.memory.proofs.Filled.{length-table, part-at}
+use Rattle.memory.proofs.Filled.{length-table}
+use Rattle.memory.proofs.Laid.{part-before, part-laid}
 use Rattle.activations.specs.declared.block.Q8Block.{Q8Block}
 use Rattle.activations.specs.Blocks.{heldBlock, blockOf, SmallSums}
 use Rattle.activations.proofs.Bounds.{small-sums}
 use Rattle.integer_layers.specs.Held.{blockHeld, Room, Held, Holds}
-
-module _ {A : Type 0} (d : A) where
-  part-long : (xs : List A) (i n : ℕ) → i + n ≤ length xs → length (part xs i n) ≡ n
-  part-long xs i n h = length-take-le n (drop i xs) (rw length-drop (omega arith))
-
-  -- a part of what stands before a
-  pub part-before : (xs ys : List A) (a i n : ℕ) → i + n ≤ a → a ≤ length xs → part (take a xs ++ ys) i n ≡ part xs i n
-  part-before xs ys a i n h k =
-      let front : length (take a xs) ≡ a = length-take-le a xs k in
-      let room : i + n ≤ length (take a xs ++ ys) = rw (length-append, front) (omega arith) in
-      let long = part-long (take a xs ++ ys) i n room in
-      let short : i + n ≤ length xs = omega arith in
-      ext-getD d (part (take a xs ++ ys) i n) (part xs i n) (long ∙ sym (part-long xs i n short)) (λ j l.
-      let b : j < n = subst (λ (z : ℕ). j < z) long l in
-      let c : i + j < length (take a xs) = rw front (omega arith) in
-      let e : i + j < a = omega arith in
-      part-at (take a xs ++ ys) i n j d b ∙ List·getD-append (take a xs) ys d (i + j) c ∙ getD-take a xs (i + j) d e ∙ sym (part-at xs i n j d b))
-
--- the part that was laid at a
-pub part-laid : {A : Type 0} (xs ys zs : List A) (a k : ℕ) → a ≤ length xs → length ys ≡ k → part (take a xs ++ (ys ++ zs)) a k ≡ ys
-part-laid xs ys zs a k h e = ap (take k) (drop-at (take a xs) (ys ++ zs) a (length-take-le a xs h)) ∙ take-at ys zs k e
-
--- a part of k places that was laid leaves the list as long as it was
-pub laid-long : {A : Type 0} (xs ys : List A) (a k e : ℕ) → e ≡ a + k → e ≤ length xs → length ys ≡ k → length (take a xs ++ (ys ++ drop (e - a) (drop a xs))) ≡ length xs
-laid-long xs ys a k e E h y =
-    let front : length (take a xs) ≡ a = length-take-le a xs (omega arith) in
-    rw (length-append, length-append, length-drop, length-drop, front, y) (omega arith)
 
 pub block-long : (x : List Float) → (length (blockOf x .qs) ≡ 256) × (length (blockOf x .bsums) ≡ 8)
 unfolding blockOf
@@ -103,9 +77,3 @@ lent-held ds qs sums t =
     let q : 256 * t + 256 - 256 * t ≡ 256 = omega arith in
     let s : 8 * t + 8 - 8 * t ≡ 8 = omega arith in
     rw (q, s)
-
--- part t of several, as it is lent
-pub lent-part : {A : Type 0} (xs : List A) (t size k : ℕ) → size ≡ k → take (t * size + size - t * size) (drop (t * size) xs) ≡ part xs (t * k) k
-lent-part xs t size k e =
-    let d : t * size + size - t * size ≡ size = omega arith in
-    rw (d, e)

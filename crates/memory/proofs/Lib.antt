@@ -1,4 +1,5 @@
 -- What a loop that fills memory leaves.
 pub mod Filled
 pub mod Parts
+pub mod Laid
 pub mod Streams

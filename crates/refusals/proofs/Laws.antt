@@ -1,9 +1,12 @@
--- Laws of the refusals of a call that writes lent memory. Assumes nothing.
+-- Laws of the refusals of a call that writes lent memory, and of an answer that is known. Assumes nothing.
 use mathlib.Core.Path.{_≡_, refl, sym, ap, _∙_}
 use mathlib.Core.Bool.{Bool, true, false}
 use Prim.Native.Nat.{ℕ, zero, suc, _<_}
 use native.Mathlib.Omega.{arith}
-use Rattle.refusals.specs.Said.{done, refused, outcomeSays}
+use lib.Ieee.{Float}
+use Rattle.refusals.specs.Said.{value, done, refused, saidBy, outcomeSays}
+use Rattle.refusals.specs.declared.Answer.{Answer}
+use Rattle.refusals.specs.declared.Answer.the-variants as answer
 use Rattle.refusals.specs.declared.Outcome.{Outcome}
 use Rattle.refusals.specs.declared.Outcome.the-variants as outcome
 use Rattle.refusals.specs.Refusals.{given, orElse, carriedOut}
@@ -62,5 +65,16 @@ carried-none (suc num) new old e = let z : _≡_ {A = ℕ} 0 1 = cc in absurd (o
 pub never-refused : (a : Outcome) (num : ℕ) → outcomeSays a ≡ done → a ≡ outcome.Refused num → ⊥
 never-refused a num s e =
     let clash : refused num ≡ done = sym (ap outcomeSays e) ∙ s in
+    let z : _≡_ {A = ℕ} 0 1 = cc clash in
+    absurd (omega arith)
+
+-- ---- an answer that says a value
+
+pub value-of : (a : Answer) (u v : Float) → saidBy a ≡ value v → a ≡ answer.Value u → u ≡ v
+value-of a u v s e = cc (sym (ap saidBy e) ∙ s)
+
+pub no-refusal : (a : Answer) (num : ℕ) (v : Float) → saidBy a ≡ value v → a ≡ answer.Refused num → ⊥
+no-refusal a num v s e =
+    let clash : refused num ≡ value v = sym (ap saidBy e) ∙ s in
     let z : _≡_ {A = ℕ} 0 1 = cc clash in
     absurd (omega arith)

@@ -21,3 +21,9 @@ saidBy (answer.Refused num) = refused num
 abbrev pub outcomeSays : Outcome → Said
 outcomeSays outcome.Done = done
 outcomeSays (outcome.Refused num) = refused num
+
+-- what a layer says of what a row dot says: a refusal is passed on
+abbrev pub passedOn : Said → Said
+passedOn (value v) = done
+passedOn done = done
+passedOn (refused num) = refused num

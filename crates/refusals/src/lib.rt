@@ -1,4 +1,6 @@
 // The numbers that say no, the sizes a call takes, and the answers that carry a value or such a number.
+ghost use mathlib.Core.Path.{_≡_};
+ghost use Rattle.refusals.specs.Said.{saidBy, outcomeSays, passedOn};
 
 // Packed bytes are not whole blocks.
 pub const NOT_WHOLE_BLOCKS: u32 = 1;
@@ -48,4 +50,14 @@ pub enum Answer {
 pub enum Outcome {
     Done,
     Refused(u32),
+}
+
+// What a layer says of a row dot's answer: its refusal is passed on.
+pub fn passed_on(answer: Answer) -> Outcome
+    ensures { λ r. ⌜ outcomeSays r ≡ passedOn (saidBy answer) ⌝ }
+{
+    match answer {
+        Answer::Value(_) => Outcome::Done,
+        Answer::Refused(number) => Outcome::Refused(number),
+    }
 }

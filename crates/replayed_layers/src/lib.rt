@@ -42,8 +42,8 @@ fn plain(layer: Layer, x: &[f32], w: &[u8], y: &mut [f32], s: Shape) -> Outcome 
     let n = s.in_feat;
     let outs = s.out_feat;
     match layer {
-        Layer::Q4kFused => layers::linear_q4_k_fused(x, w, y, batch, n, outs),
-        Layer::Q6kFused => layers::linear_q6_k_fused(x, w, y, batch, n, outs),
+        Layer::Q4kFused => fused_layers::linear_q4_k_fused(x, w, y, batch, n, outs),
+        Layer::Q6kFused => fused_layers::linear_q6_k_fused(x, w, y, batch, n, outs),
         Layer::Q4kInteger => integer_layers::linear_q4_k_integer(x, w, y, batch, n, outs),
         Layer::Q6kInteger => integer_layers::linear_q6_k_integer(x, w, y, batch, n, outs),
         Layer::Q4kIntegerRs => integer_layers::linear_q4_k_integer_rs(x, w, y, batch, n, outs),
@@ -63,9 +63,9 @@ fn cpu(
     let n = s.in_feat;
     let outs = s.out_feat;
     match layer {
-        CpuLayer::Q4k => layers::linear_q4_k_cpu(x, w, y, scratch, batch, n, outs),
-        CpuLayer::Q6k => layers::linear_q6_k_cpu(x, w, y, scratch, batch, n, outs),
-        CpuLayer::Q40 => layers::linear_q4_0_cpu(x, w, y, scratch, batch, n, outs),
+        CpuLayer::Q4k => cpu_layers::linear_q4_k_cpu(x, w, y, scratch, batch, n, outs),
+        CpuLayer::Q6k => cpu_layers::linear_q6_k_cpu(x, w, y, scratch, batch, n, outs),
+        CpuLayer::Q40 => cpu_layers::linear_q4_0_cpu(x, w, y, scratch, batch, n, outs),
     }
 }
 

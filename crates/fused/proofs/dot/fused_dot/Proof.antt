@@ -5,9 +5,8 @@ use lib.ListN.{length}
 use borrow.Author.Tests.{lt-ltb, le-ltb, eq-eqb, ne-eqb}
 use Rattle.refusals.specs.Said.{value}
 use Rattle.layouts.specs.declared.format.Format.the-variants.{OfK}
-use Rattle.layouts.proofs.Sizes.{sizes}
+use Rattle.layouts.proofs.Sizes.{sizes, values-fit}
 use Rattle.fused.specs.Says.{fusedSays}
-use Rattle.fused.proofs.Rows.{values-fit}
 use native.Mathlib.Omega.{arith}
 use borrow.Author.Needs.{needs}
 use Rattle.fused.proofs.dot.fused_dot.Statement.{statement}

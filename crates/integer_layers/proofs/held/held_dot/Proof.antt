@@ -1,8 +1,7 @@
 -- `held::held_dot` meets its contract: each format its own. Assumes nothing.
 use mathlib.Core.Path.{refl, sym, ap, subst, _∙_}
 use Prim.Native.Nat.{_+_, _-_, _*_}
-use lib.ListN.{length, take, drop}
-use Rattle.memory.specs.Lists.{part}
+use lib.ListN.{take, drop}
 use Rattle.memory.proofs.Filled.{part-length}
 use Rattle.layouts.specs.Formats.{bytesK}
 use Rattle.layouts.specs.declared.format.FormatK.{FormatK}

@@ -3,10 +3,11 @@ use mathlib.Core.Path.{_≡_, refl, sym, ap, subst, _∙_}
 use Prim.Native.Nat.{ℕ, _+_, _-_, _*_, _/_, _≤_, _<_}
 use lib.ListN.{length, take, drop, length-set}
 use Rattle.memory.proofs.Filled.{part-length}
+use Rattle.memory.proofs.Laid.{laid-long}
 use Rattle.activations.specs.declared.block.Q8Block.{Q8Block}
 use Rattle.activations.specs.Blocks.{blockOf}
 use Rattle.integer_layers.specs.Held.{Holds}
-use Rattle.integer_layers.proofs.Blocks.{block-long, laid-long, holds-none, holds-more}
+use Rattle.integer_layers.proofs.Blocks.{block-long, holds-none, holds-more}
 use native.Mathlib.Omega.{arith}
 use Rattle.integer_layers.proofs.held.hold_row.Statement.{statement}
 use Rattle.integer_layers.proofs.held.hold_row.Tie as tie

@@ -2,16 +2,16 @@
 use mathlib.Core.Path.{refl, ap, _∙_}
 use mathlib.Core.List.{List}
 use Prim.Native.Nat.{ℕ, _+_, _-_, _*_, _≤_, _<_}
-use lib.ListN.{length, take}
+use lib.ListN.{length}
 use Rattle.memory.proofs.Filled.{Filling, filling-start, filling-more, filling-done, part-length}
-use Rattle.memory.proofs.Parts.{within}
+use Rattle.memory.proofs.Parts.{within, lent-part}
 use Rattle.layouts.specs.Formats.{bytesK}
 use Rattle.layouts.specs.declared.format.Format.the-variants.{OfK}
 use Rattle.layouts.proofs.Sizes.{sizes}
 use Rattle.activations.specs.Dots.{blockDot}
 use Rattle.integer_layers.specs.Held.{blockHeld, heldDot}
 use Rattle.integer_layers.proofs.Meets.{table-meets}
-use Rattle.integer_layers.proofs.Blocks.{held-less, lent-part}
+use Rattle.integer_layers.proofs.Blocks.{held-less}
 use native.Mathlib.Omega.{arith}
 use Rattle.integer_layers.proofs.held.row_dot.Statement.{statement}
 use Rattle.integer_layers.proofs.held.row_dot.Tie as tie

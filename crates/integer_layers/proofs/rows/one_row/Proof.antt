@@ -5,14 +5,13 @@ use Prim.Native.Nat.{ℕ, _+_, _-_, _*_, _≤_, _<_}
 use native.Mathlib.Nat.{le-of-eq, le-trans}
 use lib.ListN.{length, take, drop}
 use Rattle.memory.proofs.Filled.{Filling, filling-start, filling-more, filling-done, part-length}
-use Rattle.memory.proofs.Parts.{within}
+use Rattle.memory.proofs.Parts.{within, lent-part}
 use Rattle.layouts.specs.Formats.{bytesK}
 use Rattle.layouts.specs.declared.format.Format.the-variants.{OfK}
 use Rattle.layouts.proofs.Sizes.{sizes}
 use Rattle.shapes.proofs.Fits.{product-small}
 use Rattle.integer_layers.specs.Meets.{meets}
 use Rattle.integer_layers.specs.Held.{Held, heldDot, heldRowDot}
-use Rattle.integer_layers.proofs.Blocks.{lent-part}
 use native.Mathlib.Omega.{arith}
 use Rattle.integer_layers.proofs.rows.one_row.Statement.{statement}
 use Rattle.integer_layers.proofs.rows.one_row.Tie as tie

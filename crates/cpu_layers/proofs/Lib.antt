@@ -1,0 +1,6 @@
+-- Why the `_cpu` layers meet their contracts.
+pub mod RowDots
+pub mod Columns
+pub mod CpuFits
+pub mod WholeRows
+pub mod Unique

@@ -1,0 +1,3 @@
+-- What the `_cpu` layers say.
+pub mod Says
+pub mod Columns

@@ -1,0 +1,3 @@
+-- Why the fused layers meet their contracts.
+pub mod RowDots
+pub mod Unique

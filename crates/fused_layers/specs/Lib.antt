@@ -1,0 +1,2 @@
+-- What the fused layers say.
+pub mod Says

@@ -1,6 +1,0 @@
--- Why the float layers meet their contracts.
-pub mod RowDots
-pub mod Columns
-pub mod CpuFits
-pub mod WholeRows
-pub mod Unique

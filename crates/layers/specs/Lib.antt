@@ -1,3 +1,0 @@
--- What the float layers say.
-pub mod Says
-pub mod Columns
