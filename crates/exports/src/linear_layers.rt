@@ -1,6 +1,6 @@
 // The layers.
 use crate::answers::number_of;
-use integer_layers::Meeting;
+use held_rows::Meeting;
 use layouts::Format;
 use layouts::Format32;
 use layouts::FormatK;

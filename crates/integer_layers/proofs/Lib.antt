@@ -1,6 +1,4 @@
 -- What several proofs of `integer_layers` share, one answer for each contract, and a worked case.
-pub mod Meets
-pub mod Blocks
 pub mod Outputs
 pub mod Unique
 pub mod Worked

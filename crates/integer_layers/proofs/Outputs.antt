@@ -14,10 +14,10 @@ use Rattle.activations.specs.Blocks.{blockOf}
 use Rattle.activations.specs.Dots.{blockDot}
 use Rattle.activations.specs.Rows.{blockLength, blockAt}
 use Rattle.shapes.specs.Shapes.{weightRow}
-use Rattle.integer_layers.specs.declared.meeting.Meeting.{Meeting}
-use Rattle.integer_layers.specs.Held.{heldDot, heldRowDot, Holds}
+use Rattle.held_rows.specs.declared.meeting.Meeting.{Meeting}
+use Rattle.held_rows.specs.Held.{heldDot, heldRowDot, Holds}
+use Rattle.held_rows.proofs.Meets.{meets-ext}
 use Rattle.integer_layers.specs.Says.{integerDotAt}
-use Rattle.integer_layers.proofs.Meets.{meets-ext}
 
 -- a whole block has 256 places
 whole-block : (n t : ℕ) → t < n / 256 → blockLength n t ≡ 256

@@ -17,8 +17,8 @@ use Rattle.activations.specs.Whole.{sumℤ}
 use Rattle.activations.specs.Blocks.{blockOf}
 use Rattle.activations.specs.Dots.{blockDot}
 use Rattle.shapes.specs.Shapes.{shape, oversize, layerNo, outputs}
-use Rattle.integer_layers.specs.declared.meeting.Meeting.the-variants.{Tree, Running}
-use Rattle.integer_layers.specs.Meets.{running, meets}
+use Rattle.held_rows.specs.declared.meeting.Meeting.the-variants.{Tree, Running}
+use Rattle.held_rows.specs.Meets.{running, meets}
 use Rattle.integer_layers.specs.Says.{integerLayerSays}
 
 -- d = -1, dmin = 1, the rest 0

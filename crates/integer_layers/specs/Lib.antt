@@ -1,4 +1,2 @@
 -- What the integer layers say.
-pub mod Meets
 pub mod Says
-pub mod Held

@@ -9,8 +9,8 @@ use Rattle.layouts.specs.declared.format.FormatK.{FormatK}
 use Rattle.activations.specs.Rows.{blockAt}
 use Rattle.shapes.specs.declared.Shape.{Shape}
 use Rattle.shapes.specs.Shapes.{layerNo, readingRow, weightRow, outputs}
-use Rattle.integer_layers.specs.declared.meeting.Meeting.{Meeting}
-use Rattle.integer_layers.specs.Meets.{meets}
+use Rattle.held_rows.specs.declared.meeting.Meeting.{Meeting}
+use Rattle.held_rows.specs.Meets.{meets}
 
 -- the integer dot of a row of n readings, quantised block by block, and row o of the weights
 abbrev pub integerDotAt : FormatK → Meeting → List Float → List ℕ → ℕ → ℕ → Float

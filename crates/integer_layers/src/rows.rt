@@ -1,7 +1,7 @@
 // The outputs of a layer that does not refuse, a row of readings at a time.
-use crate::held::hold_row;
-use crate::held::row_dot;
-use crate::meeting::Meeting;
+use held_rows::Meeting;
+use held_rows::hold_row;
+use held_rows::row_dot;
 use layouts::Format;
 use layouts::FormatK;
 use shapes::Shape;
@@ -12,7 +12,7 @@ ghost use Rattle.refusals.specs.Sizes.{mostOut};
 ghost use Rattle.memory.specs.Lists.{table};
 ghost use Rattle.layouts.specs.Formats.{bytesK};
 ghost use Rattle.shapes.specs.Shapes.{layerNo};
-ghost use Rattle.integer_layers.specs.Held.{heldRowDot, Room, Held};
+ghost use Rattle.held_rows.specs.Held.{heldRowDot, HeldRoom, HeldRow};
 ghost use Rattle.integer_layers.specs.Says.{integerOutputs};
 
 // The outputs of the row of readings held, a place for each row of weights.
@@ -26,7 +26,7 @@ fn one_row(
     parts: &mut [f32],
     y: &mut [f32],
 )
-    requires { ⌜ (length (now parts) ≤ 512) × (length (now y) ≤ mostOut) × (length (now y) * (length (now parts) * bytesK format) ≤ length (now w)) × Held (length (now parts)) (now ds) (now qs) (now sums) ⌝ }
+    requires { ⌜ (length (now parts) ≤ 512) × (length (now y) ≤ mostOut) × (length (now y) * (length (now parts) * bytesK format) ≤ length (now w)) × HeldRow (length (now parts)) (now ds) (now qs) (now sums) ⌝ }
     ensures { λ _. ⌜ now (y .exit) ≡ table (heldRowDot format meeting (now (w .entry)) (now (ds .entry)) (now (qs .entry)) (now (sums .entry)) (length (now (parts .entry)))) (length (now (y .entry))) ⌝ }
 {
     let size = parts.len() * layouts::block_bytes(Format::OfK(format));
@@ -50,7 +50,7 @@ fn all_rows(
     parts: &mut [f32],
     y: &mut [f32],
 )
-    requires { ⌜ (layerNo format s (length (now x)) (length (now w)) (length (now y)) ≡ 0) × (length (now parts) ≡ s .«in_feat» / 256) × Room (s .«in_feat» / 256) (now ds) (now qs) (now sums) ⌝ }
+    requires { ⌜ (layerNo format s (length (now x)) (length (now w)) (length (now y)) ≡ 0) × (length (now parts) ≡ s .«in_feat» / 256) × HeldRoom (s .«in_feat» / 256) (now ds) (now qs) (now sums) ⌝ }
     ensures { λ _. ⌜ now (y .exit) ≡ integerOutputs format meeting s (now (x .entry)) (now (w .entry)) (now (y .entry)) ⌝ }
 {
     let n = s.in_feat;

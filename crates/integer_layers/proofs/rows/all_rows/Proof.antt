@@ -11,9 +11,9 @@ use Rattle.memory.proofs.Filled.{filled-none, part-length, part-turn}
 use Rattle.memory.proofs.Parts.{within}
 use Rattle.shapes.specs.Shapes.{outputs}
 use Rattle.shapes.proofs.Fits.{Fits, fits}
-use Rattle.integer_layers.specs.Held.{Room, Holds, heldRowDot}
+use Rattle.held_rows.specs.Held.{HeldRoom, Holds, heldRowDot}
+use Rattle.held_rows.proofs.Blocks.{room-same, held-by}
 use Rattle.integer_layers.specs.Says.{integerDotAt}
-use Rattle.integer_layers.proofs.Blocks.{room-same, held-by}
 use Rattle.integer_layers.proofs.Outputs.{row-same}
 use native.Mathlib.Omega.{arith}
 use Rattle.integer_layers.proofs.rows.all_rows.Statement.{statement}
@@ -76,7 +76,7 @@ long c =
     part-length (a .x .now) from n (from + n) refl (facts c .1)
 
 -- room for a row's blocks
-room : (c : tie.In-loop Inv-loop μ-loop) → (let l = c .before .loop in Room (c .before .before .before .before .before .before .before .args .s .«in_feat» / 256) (l .ds) (l .qs) (l .sums))
+room : (c : tie.In-loop Inv-loop μ-loop) → (let l = c .before .loop in HeldRoom (c .before .before .before .before .before .before .before .args .s .«in_feat» / 256) (l .ds) (l .qs) (l .sums))
 room c =
     let t = c .before .before .before .before .before .before .before in
     let l = c .before .loop in
@@ -86,7 +86,7 @@ hold-row-requires : tie.Need-hold-row-requires Inv-loop μ-loop
 hold-row-requires c κs =
     let d = c .before .before .before .before in
     let l = d .before .loop in
-    (le-trans (le-of-eq (long d)) (facts d .0 .within .in-in), subst (λ (z : ℕ). Room (z / 256) (l .ds) (l .qs) (l .sums)) (sym (long d)) (room d))
+    (le-trans (le-of-eq (long d)) (facts d .0 .within .in-in), subst (λ (z : ℕ). HeldRoom (z / 256) (l .ds) (l .qs) (l .sums)) (sym (long d)) (room d))
 
 mul-at : tie.Need-mul-at Inv-loop μ-loop
 mul-at c = let d = c .before .before .before .before .before .before .before .before .before in omega (arith, facts d .2)
@@ -112,7 +112,7 @@ holds : (c : tie.After-hold-row Inv-loop μ-loop)
     let a = d .before .before .before .before .before .before .before .args in
     let n = a .s .«in_feat» in
     let h = c .hold-row .last in
-    Holds (part (a .x .now) (d .before .loop .b * n) n) (n / 256) (h .1 .0) (h .1 .1 .0) (h .1 .1 .1 .0) × Room (n / 256) (h .1 .0) (h .1 .1 .0) (h .1 .1 .1 .0))
+    Holds (part (a .x .now) (d .before .loop .b * n) n) (n / 256) (h .1 .0) (h .1 .1 .0) (h .1 .1 .1 .0) × HeldRoom (n / 256) (h .1 .0) (h .1 .1 .0) (h .1 .1 .1 .0))
 holds c =
     let d = c .before .before .before .before .before in
     let a = d .before .before .before .before .before .before .before .args in

@@ -10,9 +10,9 @@ use Rattle.layouts.specs.Formats.{bytesK}
 use Rattle.layouts.specs.declared.format.Format.the-variants.{OfK}
 use Rattle.layouts.proofs.Sizes.{sizes}
 use Rattle.shapes.proofs.Fits.{product-small}
-use Rattle.integer_layers.specs.Meets.{meets}
-use Rattle.integer_layers.specs.Held.{Held, heldDot, heldRowDot}
 use native.Mathlib.Omega.{arith}
+use Rattle.held_rows.specs.Meets.{meets}
+use Rattle.held_rows.specs.Held.{HeldRow, heldDot, heldRowDot}
 use Rattle.integer_layers.proofs.rows.one_row.Statement.{statement}
 use Rattle.integer_layers.proofs.rows.one_row.Tie as tie
 
@@ -75,7 +75,7 @@ row-dot-requires c κs =
     let e = l .inv .0 in
     let long = part-length (s .args .w .now) (l .o * size) size (l .o * size + size) refl (facts d .0) in
     let bytes = ap (λ (n : ℕ). n * bytesK (s .args .format)) e ∙ ap (λ (z : ℕ). length (s .args .parts .now) * z) (sym (k .block-bytes .ensures)) in
-    (le-trans (le-of-eq e) (s .pre .0), le-of-eq (bytes ∙ sym long), subst (λ (n : ℕ). Held n (s .args .ds .now) (s .args .qs .now) (s .args .sums .now)) (sym e) (s .pre .3))
+    (le-trans (le-of-eq e) (s .pre .0), le-of-eq (bytes ∙ sym long), subst (λ (n : ℕ). HeldRow n (s .args .ds .now) (s .args .qs .now) (s .args .sums .now)) (sym e) (s .pre .3))
 
 mul-y : tie.Need-mul-y Inv-loop μ-loop
 mul-y c = omega arith

@@ -6,9 +6,9 @@ use lib.ListN.{replicate, length-replicate}
 use lib.Seq.{length-take-le}
 use Rattle.numbers.specs.Steps.{nought}
 use Rattle.shapes.proofs.Fits.{fits}
-use Rattle.integer_layers.proofs.Blocks.{room-new}
 use native.Mathlib.Omega.{arith}
 use borrow.Author.Needs.{needs}
+use Rattle.held_rows.proofs.Blocks.{room-new}
 use Rattle.integer_layers.proofs.rows.rows_of_512.Statement.{statement}
 use Rattle.integer_layers.proofs.rows.rows_of_512.Tie as tie
 

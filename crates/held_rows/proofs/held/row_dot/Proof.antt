@@ -9,12 +9,12 @@ use Rattle.layouts.specs.Formats.{bytesK}
 use Rattle.layouts.specs.declared.format.Format.the-variants.{OfK}
 use Rattle.layouts.proofs.Sizes.{sizes}
 use Rattle.activations.specs.Dots.{blockDot}
-use Rattle.integer_layers.specs.Held.{blockHeld, heldDot}
-use Rattle.integer_layers.proofs.Meets.{table-meets}
-use Rattle.integer_layers.proofs.Blocks.{held-less}
+use Rattle.held_rows.specs.Held.{blockHeld, heldDot}
+use Rattle.held_rows.proofs.Meets.{table-meets}
+use Rattle.held_rows.proofs.Blocks.{held-less}
 use native.Mathlib.Omega.{arith}
-use Rattle.integer_layers.proofs.held.row_dot.Statement.{statement}
-use Rattle.integer_layers.proofs.held.row_dot.Tie as tie
+use Rattle.held_rows.proofs.held.row_dot.Statement.{statement}
+use Rattle.held_rows.proofs.held.row_dot.Tie as tie
 
 abbrev Inv-loop : tie.InvT-loop
 Inv-loop format meeting w ds qs sums parts₀ size t₀ t-end parts t = Filling (heldDot format w ds qs sums) parts₀ (length parts₀) parts t

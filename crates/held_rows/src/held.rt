@@ -9,8 +9,8 @@ ghost use lib.ListN.{length};
 ghost use Rattle.refusals.specs.Sizes.{mostIn};
 ghost use Rattle.layouts.specs.Formats.{bytesK};
 ghost use Rattle.activations.specs.Dots.{blockDot};
-ghost use Rattle.integer_layers.specs.Meets.{meets};
-ghost use Rattle.integer_layers.specs.Held.{blockHeld, heldDot, Room, Held, Holds};
+ghost use Rattle.held_rows.specs.Meets.{meets};
+ghost use Rattle.held_rows.specs.Held.{blockHeld, heldDot, HeldRoom, HeldRow, Holds};
 
 // Lays a block's quants in their places.
 fn lay_quants(quants: &[i8], out: &mut [i8])
@@ -33,8 +33,8 @@ fn lay_sums(eight: &[i32], out: &mut [i32])
 }
 
 // Quantises a row of readings, whole blocks.
-pub(crate) fn hold_row(x: &[f32], ds: &mut [f32], qs: &mut [i8], sums: &mut [i32])
-    requires { ⌜ (length (now x) ≤ mostIn) × Room (length (now x) / 256) (now ds) (now qs) (now sums) ⌝ }
+pub fn hold_row(x: &[f32], ds: &mut [f32], qs: &mut [i8], sums: &mut [i32])
+    requires { ⌜ (length (now x) ≤ mostIn) × HeldRoom (length (now x) / 256) (now ds) (now qs) (now sums) ⌝ }
     ensures { λ _. ⌜ Holds (now (x .entry)) (length (now (x .entry)) / 256) (now (ds .exit)) (now (qs .exit)) (now (sums .exit)) ⌝ }
 {
     let blocks = x.len() / 256;
@@ -54,7 +54,7 @@ pub(crate) fn hold_row(x: &[f32], ds: &mut [f32], qs: &mut [i8], sums: &mut [i32
 
 // The dot of a packed block and the activation block held at t.
 fn held_dot(format: FormatK, w: &[u8], t: usize, ds: &[f32], qs: &[i8], sums: &[i32]) -> f32
-    requires { ⌜ (length (now w) ≡ bytesK format) × (t < 512) × Held (t + 1) (now ds) (now qs) (now sums) ⌝ }
+    requires { ⌜ (length (now w) ≡ bytesK format) × (t < 512) × HeldRow (t + 1) (now ds) (now qs) (now sums) ⌝ }
     ensures { λ r. ⌜ r ≡ blockDot format (now (w .entry)) (blockHeld (now (ds .entry)) (now (qs .entry)) (now (sums .entry)) t) 256 ⌝ }
 {
     let from = 256 * t;
@@ -70,7 +70,7 @@ fn held_dot(format: FormatK, w: &[u8], t: usize, ds: &[f32], qs: &[i8], sums: &[
 }
 
 // The dot of a row of packed weights and the row held: a dot for each place of `parts`, which then meet there.
-pub(crate) fn row_dot(
+pub fn row_dot(
     format: FormatK,
     meeting: Meeting,
     w: &[u8],
@@ -79,7 +79,7 @@ pub(crate) fn row_dot(
     sums: &[i32],
     parts: &mut [f32],
 ) -> f32
-    requires { ⌜ (length (now parts) ≤ 512) × (length (now parts) * bytesK format ≤ length (now w)) × Held (length (now parts)) (now ds) (now qs) (now sums) ⌝ }
+    requires { ⌜ (length (now parts) ≤ 512) × (length (now parts) * bytesK format ≤ length (now w)) × HeldRow (length (now parts)) (now ds) (now qs) (now sums) ⌝ }
     ensures { λ r. ⌜ r ≡ meets meeting (heldDot format (now (w .entry)) (now (ds .entry)) (now (qs .entry)) (now (sums .entry))) (length (now (parts .entry))) ⌝ }
 {
     let size = layouts::block_bytes(Format::OfK(format));

@@ -4,12 +4,12 @@ use mathlib.Core.List.{List}
 use lib.ListN.{length}
 use lib.Ieee.{Float}
 use Rattle.sums.specs.Lanes.{values}
-use Rattle.integer_layers.specs.declared.meeting.Meeting.{Meeting}
-use Rattle.integer_layers.specs.Meets.{meets}
-use Rattle.integer_layers.proofs.Meets.{tree-meets, running-meets}
+use Rattle.held_rows.specs.declared.meeting.Meeting.{Meeting}
+use Rattle.held_rows.specs.Meets.{meets}
+use Rattle.held_rows.proofs.Meets.{tree-meets, running-meets}
 use borrow.Author.Needs.{needs}
-use Rattle.integer_layers.proofs.meeting.meet.Statement.{statement}
-use Rattle.integer_layers.proofs.meeting.meet.Tie as tie
+use Rattle.held_rows.proofs.meeting.meet.Statement.{statement}
+use Rattle.held_rows.proofs.meeting.meet.Tie as tie
 
 enum-told : tie.Need-enum-told
 enum-told c = search needs

@@ -2,7 +2,7 @@
 ghost use mathlib.Core.Path.{_≡_};
 ghost use lib.ListN.{length};
 ghost use Rattle.sums.specs.Lanes.{values};
-ghost use Rattle.integer_layers.specs.Meets.{running, meets};
+ghost use Rattle.held_rows.specs.Meets.{running, meets};
 
 // In the tree, or, in the `_rs` layers, in a running sum from +0.0.
 pub enum Meeting {

@@ -9,12 +9,12 @@ use Rattle.layouts.specs.declared.format.FormatK.the-variants.{Q4K, Q6K}
 use Rattle.activations.specs.declared.block.Q8Block.{Q8Block}
 use Rattle.activations.specs.Blocks.{SmallSums}
 use Rattle.activations.specs.Dots.{blockDot}
-use Rattle.integer_layers.specs.Held.{blockHeld}
-use Rattle.integer_layers.proofs.Blocks.{lent-held}
+use Rattle.held_rows.specs.Held.{blockHeld}
+use Rattle.held_rows.proofs.Blocks.{lent-held}
 use native.Mathlib.Omega.{arith}
 use borrow.Author.Needs.{needs}
-use Rattle.integer_layers.proofs.held.held_dot.Statement.{statement}
-use Rattle.integer_layers.proofs.held.held_dot.Tie as tie
+use Rattle.held_rows.proofs.held.held_dot.Statement.{statement}
+use Rattle.held_rows.proofs.held.held_dot.Tie as tie
 
 mul-from : tie.Need-mul-from
 mul-from c = search needs

@@ -11,9 +11,9 @@ use Rattle.memory.proofs.Filled.{length-table, getD-table, table-ext, table-of}
 use Rattle.numbers.specs.Steps.{nought}
 use Rattle.sums.specs.Lanes.{values}
 use Rattle.sums.specs.Tree.{tree}
-use Rattle.integer_layers.specs.declared.meeting.Meeting.{Meeting}
-use Rattle.integer_layers.specs.declared.meeting.Meeting.the-variants.{Tree, Running}
-use Rattle.integer_layers.specs.Meets.{running, meets}
+use Rattle.held_rows.specs.declared.meeting.Meeting.{Meeting}
+use Rattle.held_rows.specs.declared.meeting.Meeting.the-variants.{Tree, Running}
+use Rattle.held_rows.specs.Meets.{running, meets}
 
 pub running-none : (v : ℕ → Float) → nought ≡ running v 0
 unfolding running

@@ -15,7 +15,7 @@ use Rattle.memory.proofs.Laid.{part-before, part-laid}
 use Rattle.activations.specs.declared.block.Q8Block.{Q8Block}
 use Rattle.activations.specs.Blocks.{heldBlock, blockOf, SmallSums}
 use Rattle.activations.proofs.Bounds.{small-sums}
-use Rattle.integer_layers.specs.Held.{blockHeld, Room, Held, Holds}
+use Rattle.held_rows.specs.Held.{blockHeld, HeldRoom, HeldRow, Holds}
 
 pub block-long : (x : List Float) → (length (blockOf x .qs) ≡ 256) × (length (blockOf x .bsums) ≡ 8)
 unfolding blockOf
@@ -54,20 +54,20 @@ holds-more x ds qs sums quants eight after behind t b h room-d room-q room-s e e
 -- ---- blocks that are held
 
 -- room for N blocks, as it is made
-pub room-new : (n N : ℕ) (d : Float) (q s : ℤ) → n ≤ N → Room n (replicate N d) (replicate (256 * N) q) (replicate (8 * N) s)
+pub room-new : (n N : ℕ) (d : Float) (q s : ℤ) → n ≤ N → HeldRoom n (replicate N d) (replicate (256 * N) q) (replicate (8 * N) s)
 room-new n N d q s h = record { scales = rw length-replicate h; quants = rw length-replicate (omega arith); eights = rw length-replicate (omega arith) }
 
 -- as much room in lists as long
-pub room-same : (n : ℕ) (ds ds′ : List Float) (qs qs′ sums sums′ : List ℤ) → length ds′ ≡ length ds → length qs′ ≡ length qs → length sums′ ≡ length sums → Room n ds qs sums → Room n ds′ qs′ sums′
+pub room-same : (n : ℕ) (ds ds′ : List Float) (qs qs′ sums sums′ : List ℤ) → length ds′ ≡ length ds → length qs′ ≡ length qs → length sums′ ≡ length sums → HeldRoom n ds qs sums → HeldRoom n ds′ qs′ sums′
 room-same n ds ds′ qs qs′ sums sums′ d q s r = record { scales = omega arith; quants = omega arith; eights = omega arith }
 
-pub held-less : (n k : ℕ) (ds : List Float) (qs sums : List ℤ) → k ≤ n → Held n ds qs sums → Held k ds qs sums
+pub held-less : (n k : ℕ) (ds : List Float) (qs sums : List ℤ) → k ≤ n → HeldRow n ds qs sums → HeldRow k ds qs sums
 held-less n k ds qs sums h g =
     let r = g .room in
     record { room = record { scales = omega arith; quants = omega arith; eights = omega arith }; small = λ t l. g .small t (omega arith) }
 
 -- blocks of readings have small sums
-pub held-by : (x : List Float) (n : ℕ) (ds : List Float) (qs sums : List ℤ) → Room n ds qs sums → Holds x n ds qs sums → Held n ds qs sums
+pub held-by : (x : List Float) (n : ℕ) (ds : List Float) (qs sums : List ℤ) → HeldRoom n ds qs sums → Holds x n ds qs sums → HeldRow n ds qs sums
 held-by x n ds qs sums r h = record { room = r; small = λ t l. subst SmallSums (sym (h .at t l)) (small-sums (part x (256 * t) 256)) }
 
 -- block t, as it is lent

@@ -13,22 +13,22 @@ use Rattle.layouts.specs.declared.format.FormatK.{FormatK}
 use Rattle.activations.specs.declared.block.Q8Block.{Q8Block}
 use Rattle.activations.specs.Blocks.{heldBlock, blockOf, SmallSums}
 use Rattle.activations.specs.Dots.{blockDot}
-use Rattle.integer_layers.specs.declared.meeting.Meeting.{Meeting}
-use Rattle.integer_layers.specs.Meets.{meets}
+use Rattle.held_rows.specs.declared.meeting.Meeting.{Meeting}
+use Rattle.held_rows.specs.Meets.{meets}
 
 -- the block held at t
 abbrev pub blockHeld : List Float → List ℤ → List ℤ → ℕ → Q8Block
 blockHeld ds qs sums t = heldBlock (getD ds t nan) (part qs (256 * t) 256) (part sums (8 * t) 8)
 
 -- there is room for n blocks
-pub record Room (n : ℕ) (ds : List Float) (qs sums : List ℤ) : Type 0 where
+pub record HeldRoom (n : ℕ) (ds : List Float) (qs sums : List ℤ) : Type 0 where
   pub scales : n ≤ length ds
   pub quants : 256 * n ≤ length qs
   pub eights : 8 * n ≤ length sums
 
 -- n blocks are held there, each with small sums
-pub record Held (n : ℕ) (ds : List Float) (qs sums : List ℤ) : Type 0 where
-  pub room : Room n ds qs sums
+pub record HeldRow (n : ℕ) (ds : List Float) (qs sums : List ℤ) : Type 0 where
+  pub room : HeldRoom n ds qs sums
   pub small : (t : ℕ) → t < n → SmallSums (blockHeld ds qs sums t)
 
 -- the blocks of n times 256 readings are held there

@@ -4,8 +4,8 @@ use lib.Ieee.{Float, binary32, add}
 use Rattle.memory.specs.Lists.{table}
 use Rattle.numbers.specs.Steps.{nought}
 use Rattle.sums.specs.Tree.{tree}
-use Rattle.integer_layers.specs.declared.meeting.Meeting.{Meeting}
-use Rattle.integer_layers.specs.declared.meeting.Meeting.the-variants.{Tree, Running}
+use Rattle.held_rows.specs.declared.meeting.Meeting.{Meeting}
+use Rattle.held_rows.specs.declared.meeting.Meeting.the-variants.{Tree, Running}
 
 -- a running sum from +0.0 of the first n
 unfoldable pub running : (ℕ → Float) → ℕ → Float

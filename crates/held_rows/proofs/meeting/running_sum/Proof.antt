@@ -4,11 +4,11 @@ use Prim.Native.Nat.{_-_, _≤_}
 use lib.ListN.{length, getD}
 use lib.Ieee.{Float, nan, binary32, add}
 use Rattle.sums.specs.Lanes.{values}
-use Rattle.integer_layers.specs.Meets.{running}
-use Rattle.integer_layers.proofs.Meets.{running-none, running-more}
+use Rattle.held_rows.specs.Meets.{running}
+use Rattle.held_rows.proofs.Meets.{running-none, running-more}
 use native.Mathlib.Omega.{arith}
-use Rattle.integer_layers.proofs.meeting.running_sum.Statement.{statement}
-use Rattle.integer_layers.proofs.meeting.running_sum.Tie as tie
+use Rattle.held_rows.proofs.meeting.running_sum.Statement.{statement}
+use Rattle.held_rows.proofs.meeting.running_sum.Tie as tie
 
 abbrev Inv-loop : tie.InvT-loop
 Inv-loop x sum₀ i₀ i-end sum i = (i ≤ length x) × (i-end ≡ length x) × (sum ≡ running (values x) i)

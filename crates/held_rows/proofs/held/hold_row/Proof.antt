@@ -6,11 +6,11 @@ use Rattle.memory.proofs.Filled.{part-length}
 use Rattle.memory.proofs.Laid.{laid-long}
 use Rattle.activations.specs.declared.block.Q8Block.{Q8Block}
 use Rattle.activations.specs.Blocks.{blockOf}
-use Rattle.integer_layers.specs.Held.{Holds}
-use Rattle.integer_layers.proofs.Blocks.{block-long, holds-none, holds-more}
+use Rattle.held_rows.specs.Held.{Holds}
+use Rattle.held_rows.proofs.Blocks.{block-long, holds-none, holds-more}
 use native.Mathlib.Omega.{arith}
-use Rattle.integer_layers.proofs.held.hold_row.Statement.{statement}
-use Rattle.integer_layers.proofs.held.hold_row.Tie as tie
+use Rattle.held_rows.proofs.held.hold_row.Statement.{statement}
+use Rattle.held_rows.proofs.held.hold_row.Tie as tie
 
 abbrev Inv-loop : tie.InvT-loop
 Inv-loop x ds₀ qs₀ sums₀ blocks t₀ ds qs sums t = (t ≤ length x / 256) × (length ds ≡ length ds₀) × (length qs ≡ length qs₀) × (length sums ≡ length sums₀) × Holds x t ds qs sums
