@@ -4,7 +4,7 @@ use mathlib.Core.List.{[], _∷_}
 use lib.Ieee.{nan, binary32, ofBits, toBits}
 use Rattle.memory.specs.Lists.{table}
 use Rattle.lines.specs.Text.{decimalIn, decimal, field, hexDigit, hex8, hexField}
-use Rattle.lines.specs.Lines.{layerLine, windowNumber, outputs, windowLine, refusedLine, endLine}
+use Rattle.lines.specs.Lines.{layerLine, windowHead, outputFields, windowLine, refusedLine, endLine}
 
 -- `layer 4 256 1`
 pub layer-example : layerLine 4 256 1 ≡ 108 ∷ 97 ∷ 121 ∷ 101 ∷ 114 ∷ 32 ∷ 52 ∷ 32 ∷ 50 ∷ 53 ∷ 54 ∷ 32 ∷ 49 ∷ 10 ∷ []
@@ -14,12 +14,12 @@ layer-example = refl
 -- `window 1 42000000`: the output is 32.0
 pub window-example : windowLine 1 (ofBits binary32 0x4200_0000 ∷ [])
     ≡ 119 ∷ 105 ∷ 110 ∷ 100 ∷ 111 ∷ 119 ∷ 32 ∷ 49 ∷ 32 ∷ 52 ∷ 50 ∷ 48 ∷ 48 ∷ 48 ∷ 48 ∷ 48 ∷ 48 ∷ 10 ∷ []
-unfolding windowLine windowNumber outputs field decimal decimalIn hexField hex8 table hexDigit toBits ofBits
+unfolding windowLine windowHead outputFields field decimal decimalIn hexField hex8 table hexDigit toBits ofBits
 window-example = refl
 
 -- `window 2 refused 13`
 pub refused-example : refusedLine 2 ≡ 119 ∷ 105 ∷ 110 ∷ 100 ∷ 111 ∷ 119 ∷ 32 ∷ 50 ∷ 32 ∷ 114 ∷ 101 ∷ 102 ∷ 117 ∷ 115 ∷ 101 ∷ 100 ∷ 32 ∷ 49 ∷ 51 ∷ 10 ∷ []
-unfolding refusedLine windowNumber field decimal decimalIn
+unfolding refusedLine windowHead field decimal decimalIn
 refused-example = refl
 
 -- `end 1 1`
@@ -28,8 +28,8 @@ unfolding endLine field decimal decimalIn
 end-example = refl
 
 -- a NaN is ` 7FC00000`
-pub nan-example : outputs (nan ∷ []) ≡ 32 ∷ 55 ∷ 70 ∷ 67 ∷ 48 ∷ 48 ∷ 48 ∷ 48 ∷ 48 ∷ []
-unfolding outputs hexField hex8 table hexDigit toBits
+pub nan-example : outputFields (nan ∷ []) ≡ 32 ∷ 55 ∷ 70 ∷ 67 ∷ 48 ∷ 48 ∷ 48 ∷ 48 ∷ 48 ∷ []
+unfolding outputFields hexField hex8 table hexDigit toBits
 nan-example = refl
 
 -- decimal numbers of one digit, of two, and of the most

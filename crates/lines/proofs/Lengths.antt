@@ -4,9 +4,9 @@ use native.Mathlib.Omega.{arith}
 use mathlib.Core.List.{List}
 use lib.Ieee.{Float}
 use lib.ListN.{length, length-append}
-use Rattle.lines.specs.Lines.{layerLine, windowNumber, windowLine, refusedLine, stopLine, endLine}
+use Rattle.lines.specs.Lines.{layerLine, windowHead, windowLine, refusedLine, stopLine, endLine}
 use Rattle.lines.proofs.Decimal.{length-field}
-use Rattle.lines.proofs.Outputs.{length-outputs}
+use Rattle.lines.proofs.Outputs.{length-output-fields}
 
 -- the length of a line
 pub record Fitting (line : List ℕ) : Type 0 where
@@ -22,14 +22,14 @@ layer-line-length format inFeat outFeat =
     record { some = simp length-append (omega arith); most = simp length-append (omega arith) }
 
 pub window-line-length : (number : ℕ) (ys : List Float) → length ys ≤ 16 → Fitting (windowLine number ys)
-unfolding windowLine windowNumber
+unfolding windowLine windowHead
 window-line-length number ys h =
     let a = length-field number in
-    let b = length-outputs ys in
+    let b = length-output-fields ys in
     record { some = simp length-append (omega arith); most = simp length-append (omega arith) }
 
 pub refused-line-length : (number : ℕ) → Fitting (refusedLine number)
-unfolding refusedLine windowNumber
+unfolding refusedLine windowHead
 refused-line-length number = let a = length-field number in record { some = simp length-append (omega arith); most = simp length-append (omega arith) }
 
 pub stop-line-length : (num offset : ℕ) → Fitting (stopLine num offset)

@@ -4,6 +4,7 @@ use mathlib.Core.List.{List, [], _∷_, _++_}
 use lib.Ieee.{Float, binary32, toBits}
 use Rattle.lines.specs.Text.{field, hexField}
 
+-- what ends each line
 abbrev pub newline : List ℕ
 newline = 10 ∷ []
 
@@ -11,22 +12,22 @@ newline = 10 ∷ []
 unfoldable pub layerLine : (format inFeat outFeat : ℕ) → List ℕ
 layerLine format inFeat outFeat = (108 ∷ 97 ∷ 121 ∷ 101 ∷ 114 ∷ []) ++ (field format ++ (field inFeat ++ (field outFeat ++ newline)))
 
--- `window` and its number
-unfoldable pub windowNumber : ℕ → List ℕ
-windowNumber number = (119 ∷ 105 ∷ 110 ∷ 100 ∷ 111 ∷ 119 ∷ []) ++ field number
+-- how a window's line begins, answered or refused: `window` and its number
+unfoldable pub windowHead : ℕ → List ℕ
+windowHead number = (119 ∷ 105 ∷ 110 ∷ 100 ∷ 111 ∷ 119 ∷ []) ++ field number
 
 -- each output's bits as eight upper-case hex digits; a NaN's are 7FC00000
-unfoldable pub outputs : List Float → List ℕ
-outputs [] = []
-outputs (y ∷ ys) = hexField (toBits binary32 y) ++ outputs ys
+unfoldable pub outputFields : List Float → List ℕ
+outputFields [] = []
+outputFields (y ∷ ys) = hexField (toBits binary32 y) ++ outputFields ys
 
 -- Per window: `window`, its number, then each output's bits ..
 unfoldable pub windowLine : ℕ → List Float → List ℕ
-windowLine number ys = windowNumber number ++ (outputs ys ++ newline)
+windowLine number ys = windowHead number ++ (outputFields ys ++ newline)
 
 -- .. or `refused 13`
 unfoldable pub refusedLine : ℕ → List ℕ
-refusedLine number = windowNumber number ++ ((32 ∷ 114 ∷ 101 ∷ 102 ∷ 117 ∷ 115 ∷ 101 ∷ 100 ∷ 32 ∷ 49 ∷ 51 ∷ []) ++ newline)
+refusedLine number = windowHead number ++ ((32 ∷ 114 ∷ 101 ∷ 102 ∷ 117 ∷ 115 ∷ 101 ∷ 100 ∷ 32 ∷ 49 ∷ 51 ∷ []) ++ newline)
 
 -- `stop`, the number, the record's byte offset
 unfoldable pub stopLine : (num offset : ℕ) → List ℕ

@@ -7,7 +7,7 @@ use borrow.Author.Tests.{eq-eqb, ne-eqb}
 use lib.ListN.{length}
 use Rattle.numbers.specs.Fields.{le32}
 use Rattle.records.specs.Frame.{isWhole, kindAt, payloadAt}
-use Rattle.records.specs.Kinds.{formatIn, inFeatIn, outFeatIn, layerNo, windowNo}
+use Rattle.records.specs.Kinds.{formatIn, inFeatIn, outFeatIn, layerRecordNo, windowNo}
 use Rattle.records.specs.Found.{ended, layer, window, warmUp, refused, layerFound, windowFound, recordFound, foundAt}
 
 -- no is what the code has of the number num
@@ -38,7 +38,7 @@ module _ (num no next : ℕ) (e : no ≡ num) where
 
 -- what a whole record of each kind is found as
 module _ (kind : ℕ) (p : List ℕ) (next latest : ℕ) where
-  pub record-layer : kind ≡ 1 → layerFound (layerNo p) p next ≡ recordFound kind p next latest
+  pub record-layer : kind ≡ 1 → layerFound (layerRecordNo p) p next ≡ recordFound kind p next latest
   unfolding recordFound
   record-layer e = simp (eq-eqb _ _ e)
 

@@ -11,7 +11,7 @@ use lib.Seq.{getD-take, getD-drop, length-take-le, take-add, drop-at, take-take,
 use Rattle.memory.specs.Lists.{part}
 use Rattle.numbers.specs.Fields.{le32}
 use Rattle.records.specs.Frame.{goodLength, sizeOf, isWhole, nextAt, kindAt, payloadAt}
-use Rattle.records.specs.Kinds.{layerNo, windowNo}
+use Rattle.records.specs.Kinds.{layerRecordNo, windowNo}
 use Rattle.records.specs.Found.{Found, layer, window, warmUp, refused, layerFound, windowFound, recordFound, foundAt, later}
 use Rattle.records.proofs.Whole.{together, Whole, whole, whole-true, good-true, payload-whole, payload-none}
 use Rattle.records.proofs.Read.{a-layer, a-window, a-warm-up, reached, layer-read, window-read, warm-up-read}
@@ -168,9 +168,9 @@ module _ (i : ℕ) where
   later-record : (kind : ℕ) (p : List ℕ) (next latest : ℕ) → recordFound kind p (i + next) latest ≡ later i (recordFound kind p next latest)
   unfolding recordFound
   later-record kind p next latest =
-      let l = layerFound (layerNo p) p next in
+      let l = layerFound (layerRecordNo p) p next in
       let w = windowFound (windowNo p latest) next in
-      rw (later-layer (layerNo p) p next, later-window (windowNo p latest) next)
+      rw (later-layer (layerRecordNo p) p next, later-window (windowNo p latest) next)
       (ap (cond (eqb kind 1) (later i l)) (later-cond (eqb kind 2) w (refused 12)) ∙ later-cond (eqb kind 1) l (cond (eqb kind 2) w (refused 12)))
 
   later-same : (kind other : ℕ) (p q : List ℕ) (next behind latest : ℕ) → other ≡ kind → q ≡ p → next ≡ i + behind → recordFound kind p next latest ≡ later i (recordFound other q behind latest)

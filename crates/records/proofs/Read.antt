@@ -14,7 +14,7 @@ use Rattle.layouts.specs.Formats.{knownFormat, formatOf}
 use Rattle.layouts.specs.declared.format.Format.the-variants.{OfK}
 use Rattle.layouts.proofs.Sizes.{sizes}
 use Rattle.records.specs.Frame.{isWhole, nextAt, kindAt, payloadAt}
-use Rattle.records.specs.Kinds.{formatIn, inFeatIn, outFeatIn, weightBytes, sizesNo, layerNo, windowNo}
+use Rattle.records.specs.Kinds.{formatIn, inFeatIn, outFeatIn, weightBytes, sizesNo, layerRecordNo, windowNo}
 use Rattle.records.specs.Found.{Found, ended, layer, window, warmUp, refused, layerFound, windowFound, recordFound, foundAt}
 use Rattle.records.proofs.Whole.{whole}
 use Rattle.records.proofs.UpTo.{up-to}
@@ -119,8 +119,8 @@ pub record LayerHead (p : List ℕ) : Type 0 where
   pub sizes : Sized (inFeatIn p) (outFeatIn p)
   pub sized : length p ≡ 9 + weightBytes (formatIn p) (inFeatIn p) (outFeatIn p)
 
-pub layer-head : (p : List ℕ) → layerNo p ≡ 0 → LayerHead p
-unfolding layerNo
+pub layer-head : (p : List ℕ) → layerRecordNo p ≡ 0 → LayerHead p
+unfolding layerRecordNo
 layer-head p e =
     let a = given-none 11 _ _ (lit< tt) e in
     let b = given-none 12 _ _ (lit< tt) (a .1) in
@@ -137,13 +137,13 @@ few-weights format inFeat outFeat h k =
 
 -- a layer comes of a layer's payload whose checks gave no number
 record LayerFrom (p : List ℕ) (behind format inFeat outFeat next : ℕ) : Type 0 where
-  no-number : layerNo p ≡ 0
+  no-number : layerRecordNo p ≡ 0
   its-format : formatIn p ≡ format
   its-inputs : inFeatIn p ≡ inFeat
   its-outputs : outFeatIn p ≡ outFeat
   its-next : behind ≡ next
 
-layer-from : (num : ℕ) (p : List ℕ) (behind format inFeat outFeat next : ℕ) → layerNo p ≡ num → layerFound num p behind ≡ layer format inFeat outFeat next
+layer-from : (num : ℕ) (p : List ℕ) (behind format inFeat outFeat next : ℕ) → layerRecordNo p ≡ num → layerFound num p behind ≡ layer format inFeat outFeat next
     → LayerFrom p behind format inFeat outFeat next
 unfolding layerFound
 layer-from zero p behind format inFeat outFeat next n e =
@@ -168,7 +168,7 @@ layer-read s i latest format inFeat outFeat next e =
     let p = payloadAt s i in
     let kind = kindAt s i in
     let l = first (eqb kind 1) _ _ _ (r .1) (λ z. neither (eqb kind 2) _ _ _ z (window-layer (windowNo p latest) (nextAt s i) _ _ _ _) (not-refused 12 a-layer)) in
-    let o = layer-from (layerNo p) p (nextAt s i) format inFeat outFeat next refl (l .1) in
+    let o = layer-from (layerRecordNo p) p (nextAt s i) format inFeat outFeat next refl (l .1) in
     let h = layer-head p (o .no-number) in
     let b = behind-record s i next (r .0) (sym (o .its-next)) in
     let z = rw (o .its-inputs, o .its-outputs) at (h .sizes) in
@@ -227,7 +227,7 @@ module _ (s : List ℕ) (i latest : ℕ) where
       let r = reached s i latest t e in
       let p = payloadAt s i in
       let kind = kindAt s i in
-      let k = second (eqb kind 1) _ _ _ (r .1) (layer-never (layerNo p) p (nextAt s i) f (no-layer _ _ _ _) (λ n. not-refused n t)) in
+      let k = second (eqb kind 1) _ _ _ (r .1) (layer-never (layerRecordNo p) p (nextAt s i) f (no-layer _ _ _ _) (λ n. not-refused n t)) in
       (r .0, first (eqb kind 2) _ _ _ (k .1) (not-refused 12 t) .1)
 
   module _ (next : ℕ) where

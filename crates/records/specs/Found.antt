@@ -7,7 +7,7 @@ use lib.ListN.{length}
 use Rattle.records.specs.declared.reader.Item.{Item}
 use Rattle.records.specs.declared.reader.Item.the-variants as item
 use Rattle.records.specs.Frame.{isWhole, nextAt, kindAt, payloadAt}
-use Rattle.records.specs.Kinds.{formatIn, inFeatIn, outFeatIn, layerNo, windowNo}
+use Rattle.records.specs.Kinds.{formatIn, inFeatIn, outFeatIn, layerRecordNo, windowNo}
 
 -- nothing, a layer, a window, a warm-up window (13), or a number that says no; next is the offset behind the record
 pub data Found : Type 0 where
@@ -37,7 +37,7 @@ windowFound num next = cond (eqb num 0) (window next) (cond (eqb num 13) (warmUp
 -- a whole record with payload p: kind 1 is a layer, kind 2 a window, and any other is unknown
 unfoldable pub recordFound : (kind : ℕ) → List ℕ → (next latest : ℕ) → Found
 recordFound kind p next latest =
-    cond (eqb kind 1) (layerFound (layerNo p) p next)
+    cond (eqb kind 1) (layerFound (layerRecordNo p) p next)
     (cond (eqb kind 2) (windowFound (windowNo p latest) next)
     (refused 12))
 

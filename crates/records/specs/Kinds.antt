@@ -12,12 +12,15 @@ use Rattle.shapes.specs.Shapes.{rowBytes}
 
 -- ---- Kind 1, layer: format byte (4 or 6), u32 in_feat (1 to 2,048), u32 out_feat (1 to 16), then exactly the weights
 
+-- the format byte of a layer's payload ..
 abbrev pub formatIn : List ℕ → ℕ
 formatIn p = getD p 0 0
 
+-- .. its in_feat, a u32 behind that byte ..
 abbrev pub inFeatIn : List ℕ → ℕ
 inFeatIn p = le32 p 1
 
+-- .. and its out_feat, a u32 behind in_feat
 abbrev pub outFeatIn : List ℕ → ℕ
 outFeatIn p = le32 p 5
 
@@ -38,8 +41,8 @@ sizesNo inFeat outFeat =
     none))
 
 -- short layer head 11; format 12; sizes out of range 6; multiple of 256, 2; weight length 11
-unfoldable pub layerNo : List ℕ → ℕ
-layerNo p =
+unfoldable pub layerRecordNo : List ℕ → ℕ
+layerRecordNo p =
     given 11 (ltb (length p) 9)
     (given 12 (not (knownFormat (formatIn p)))
     (orElse (sizesNo (inFeatIn p) (outFeatIn p))

@@ -5,7 +5,7 @@ ghost use mathlib.Core.Bool.{true};
 ghost use Prim.Native.Nat.{_≤_};
 ghost use lib.ListN.{drop};
 ghost use Rattle.layouts.specs.Formats.{knownFormat};
-ghost use Rattle.records.specs.Kinds.{weightBytes, sizesNo, layerNo};
+ghost use Rattle.records.specs.Kinds.{weightBytes, sizesNo, layerRecordNo};
 
 // The bytes before a layer's weights.
 const HEAD: usize = 9;
@@ -56,7 +56,7 @@ fn weight_bytes(format: u8, in_feat: usize, out_feat: usize) -> usize
 
 // Why a layer's payload is refused; 0 where it is not.
 pub(crate) fn layer_no(p: &[u8]) -> u32
-    ensures { λ r. ⌜ r ≡ layerNo (now (p .entry)) ⌝ }
+    ensures { λ r. ⌜ r ≡ layerRecordNo (now (p .entry)) ⌝ }
 {
     if p.len() < HEAD {
         return refusals::MALFORMED;

@@ -6,7 +6,7 @@ use crate::frame::payload;
 use crate::layers::layer_no;
 use crate::windows::window_no;
 ghost use mathlib.Core.Path.{_≡_};
-ghost use Rattle.records.specs.Kinds.{layerNo, windowNo};
+ghost use Rattle.records.specs.Kinds.{layerRecordNo, windowNo};
 ghost use Rattle.records.specs.Found.{itemSays, layerFound, windowFound, foundAt};
 
 // What stands at an offset; next is the offset behind the record.
@@ -34,7 +34,7 @@ pub enum Item {
 
 // The layer record whose payload is p.
 fn layer_item(p: &[u8], next: usize) -> Item
-    ensures { λ r. ⌜ itemSays r ≡ layerFound (layerNo (now (p .entry))) (now (p .entry)) next ⌝ }
+    ensures { λ r. ⌜ itemSays r ≡ layerFound (layerRecordNo (now (p .entry))) (now (p .entry)) next ⌝ }
 {
     let no = layer_no(p);
     if no != 0 {

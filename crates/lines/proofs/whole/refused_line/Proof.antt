@@ -3,7 +3,7 @@ use Prim.Native.Nat.{ℕ}
 use mathlib.Core.List.{List, [], _∷_, append-assoc}
 use denote.Ref.{now}
 use native.Mathlib.Omega.{arith}
-use Rattle.lines.specs.Lines.{newline, windowNumber, refusedLine}
+use Rattle.lines.specs.Lines.{newline, windowHead, refusedLine}
 use Rattle.lines.specs.Text.{field}
 use Rattle.lines.proofs.Laid.{Written, first, next, named}
 use borrow.Author.Needs.{needs}
@@ -29,7 +29,7 @@ same-length : tie.Need-same-length
 same-length c = search needs
 
 returns : tie.Need-returns
-unfolding windowNumber refusedLine
+unfolding windowHead refusedLine
 returns c =
     let p = c .before .before in
     let q = p .before .before .before .before .before in

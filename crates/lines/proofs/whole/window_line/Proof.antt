@@ -6,7 +6,7 @@ use denote.Ref.{now}
 use mathlib.Core.List.{[], _∷_, append-assoc}
 use lib.ListN.{length}
 use Rattle.lines.specs.Text.{field}
-use Rattle.lines.specs.Lines.{newline, windowNumber, outputs, windowLine}
+use Rattle.lines.specs.Lines.{newline, windowHead, outputFields, windowLine}
 use Rattle.lines.proofs.Laid.{Written, first, next, named}
 use Rattle.lines.proofs.Outputs.{Shown, shown-none, shown-more, shown-all}
 use Rattle.lines.proofs.whole.window_line.Statement.{statement}
@@ -73,7 +73,7 @@ same-length : tie.Need-same-length Inv-loop μ-loop
 same-length c = omega arith
 
 returns : tie.Need-returns Inv-loop μ-loop
-unfolding windowNumber windowLine
+unfolding windowHead windowLine
 returns c =
     let p = c .before .before in
     let l = p .before .before .before .before in
@@ -85,7 +85,7 @@ returns c =
     let all = shown-all (s .put-field .last .0) (s .put-field .result) ys (l .loop .line) (l .loop .at) (l .loop .k) past (l .loop .inv .0) in
     let word = first (now (args .line)) (119 ∷ 105 ∷ 110 ∷ 100 ∷ 111 ∷ 119 ∷ []) (r .put .ensures .0) (r .put .ensures .1) in
     let number = next (field (args .number)) word (s .put-field .ensures .0) (s .put-field .ensures .1 .0) in
-    let shown = next (outputs ys) number (all .0) (all .1) in
+    let shown = next (outputFields ys) number (all .0) (all .1) in
     let whole : Written (now (args .line)) (windowLine (args .number) ys) (p .put2 .last .0) (p .put2 .result) = named (simp append-assoc) (next newline shown (p .put2 .ensures .0) (p .put2 .ensures .1)) in
     (whole .holds, (whole .ends, omega (arith, p .put2 .ensures .1, s .put-field .ensures .1 .1, r .put .ensures .1)))
 

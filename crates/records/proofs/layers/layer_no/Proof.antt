@@ -10,7 +10,7 @@ use lib.Dec.{ltb, eqb}
 use lib.ListN.{length}
 use Rattle.refusals.proofs.Laws.{given-yes, given-no, else-first, else-later}
 use Rattle.layouts.specs.Formats.{knownFormat}
-use Rattle.records.specs.Kinds.{formatIn, inFeatIn, outFeatIn, weightBytes, sizesNo, layerNo}
+use Rattle.records.specs.Kinds.{formatIn, inFeatIn, outFeatIn, weightBytes, sizesNo, layerRecordNo}
 use Rattle.records.proofs.Read.{Sized, sizes-in}
 use Rattle.records.proofs.layers.layer_no.Statement.{statement}
 use Rattle.records.proofs.layers.layer_no.Tie as tie
@@ -18,7 +18,7 @@ use Rattle.records.proofs.layers.layer_no.Tie as tie
 -- ---- the head
 
 returns : tie.Need-returns
-unfolding layerNo
+unfolding layerRecordNo
 returns c = sym (given-yes 11 _ _ (lt-ltb _ _ (c .if1 .taken)))
 
 head : (c : tie.Else1) → ltb (length (now (c .before .before .args .p))) 9 ≡ false
@@ -33,7 +33,7 @@ known-format-requires : tie.Need-known-format-requires
 known-format-requires c κs = search needs
 
 returns-2 : tie.Need-returns-2
-unfolding layerNo
+unfolding layerRecordNo
 returns-2 c =
     let k = c .before in
     sym (given-no 11 _ _ (head (k .before .before)) ∙ given-yes 12 _ _ (ap not (sym (k .known-format .ensures)) ∙ c .if2 .taken))
@@ -60,7 +60,7 @@ sizes : (c : tie.After-sizes-no) → let p = now (c .before .before .before .bef
 sizes c = c .sizes-no .ensures ∙ same-sizes _ _ _ _ (c .before .before .u32-at .ensures .0) (c .before .u32-at2 .ensures .0)
 
 returns-3 : tie.Need-returns-3
-unfolding layerNo
+unfolding layerRecordNo
 returns-3 c =
     let z = c .before in
     let k = z .before .before .before in
@@ -95,7 +95,7 @@ alike : (size need want : ℕ) → 9 ≤ size → need ≡ want → size - 9 ≡
 alike size need want h e n = ap not (eq-eqb size (9 + want) (omega arith))
 
 returns-4 : tie.Need-returns-4
-unfolding layerNo
+unfolding layerRecordNo
 returns-4 c =
     let w = c .before in
     let z = w .before .before in
@@ -108,7 +108,7 @@ returns-4 c =
     ∙ given-yes 11 _ _ (unlike _ _ _ (a .if1 .left) (bytes w) (c .if4 .taken)))
 
 returns-5 : tie.Need-returns-5
-unfolding layerNo
+unfolding layerRecordNo
 returns-5 c =
     let w = c .before in
     let z = w .before .before in
