@@ -1,7 +1,7 @@
 -- Document 01's bench card as one table: what each row asks, what the card says, and what the definitions that the contracts cite answer. Definitions only.
 use Prim.Native.Nat.{ℕ}
 use mathlib.Core.List.{List, [], _∷_, map}
-use lib.IntN.{ℤ, pos}
+use lib.IntN.{pos}
 use lib.ListN.{length, replicate, take}
 use lib.Ieee.{Float, binary32, ofBits, toBits, ofInt}
 use Rattle.refusals.specs.Said.{Said, value, done, refused}
@@ -12,7 +12,6 @@ use Rattle.quantizers.specs.Says.{quantizeSays}
 use Rattle.quantizers.specs.declared.target.Target.the-variants.{Q40}
 use Rattle.sums.specs.Says.{sumSays}
 use Rattle.activations.specs.Blocks.{quantized}
-use Rattle.activations.specs.declared.block.Quantized.{Quantized}
 use Rattle.activations.specs.declared.block.Q8Block.{Q8Block}
 
 -- What a row asks. A float is given by its bits, as the card writes it.
@@ -37,6 +36,7 @@ pub record Row : Type 0 where
   pub asks : Asked
   pub says : List ℕ
 
+-- the floats of these bits
 abbrev pub floats : List ℕ → List Float
 floats bs = map (ofBits binary32) bs
 
@@ -66,6 +66,7 @@ answer (becomes n) = toBits binary32 (ofInt binary32 (pos n)) ∷ []
 answer (quants bs) = firstQuants (length bs) (quantized (floats bs) .block)
 answer (gives b) = byteOf (quantQ8 (ofBits binary32 b)) ∷ []
 
+-- a row of the card
 abbrev row : Asked → List ℕ → Row
 row a s = record { asks = a; says = s }
 

@@ -3,7 +3,7 @@ use crate::format::Format32;
 ghost use mathlib.Core.Path.{_≡_};
 ghost use Prim.Native.Nat.{_+_, _*_, _/_, _%_, _≤_, _<_};
 ghost use lib.IntN.{pos, _-ℤ_};
-ghost use lib.ListN.{length, getD};
+ghost use lib.ListN.{length};
 ghost use Rattle.memory.specs.Lists.{table};
 ghost use Rattle.layouts.specs.Formats.{bytes32};
 ghost use Rattle.layouts.specs.Of32.{quant32};

@@ -1,6 +1,6 @@
 -- The bytes of a block: the stored scale's two, and then the quants'. Assumes nothing.
-use mathlib.Core.Path.{_≡_, refl, sym, ap, _∙_, subst}
-use Prim.Native.Nat.{ℕ, zero, suc, _+_, _-_, _*_, _/_, _%_, _≤_, _<_}
+use mathlib.Core.Path.{_≡_, refl, sym, ap, _∙_}
+use Prim.Native.Nat.{ℕ, suc, _+_, _-_, _*_, _/_, _%_, _≤_, _<_}
 use native.Mathlib.Nat.{le-of-eq}
 use native.Mathlib.Omega.{arith}
 use mathlib.Core.List.{List, _++_}
@@ -8,7 +8,7 @@ use lib.Arith.{digits-div, digits-mod}
 use lib.Dec.{lit≤}
 use lib.ListN.{length, getD, set, take, drop}
 use lib.Ieee.{Float, nan, binary32, mul}
-use Rattle.memory.specs.Lists.{table, filled, part}
+use Rattle.memory.specs.Lists.{table}
 use Rattle.memory.proofs.Filled.{Filling, filling-start, filling-more, filled-all, part-turn}
 use Rattle.numbers.specs.Fields.{byteOf}
 use Rattle.numbers.specs.Readings.{inverse, quantQ8, quantQ40}

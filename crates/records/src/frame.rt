@@ -2,7 +2,6 @@
 use crate::fields::u32_at;
 ghost use mathlib.Core.Path.{_≡_};
 ghost use Prim.Native.Nat.{_≤_};
-ghost use lib.ListN.{length};
 ghost use Rattle.records.specs.Frame.{goodLength, sizeOf, isWhole, payloadAt};
 
 // What a length field says at most: a kind and its payload.

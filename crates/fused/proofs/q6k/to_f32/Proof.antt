@@ -4,7 +4,7 @@ use mathlib.Core.Bool.{false}
 use borrow.Author.Needs.{needs}
 use lib.IntN.{ℤ, pos, natAbs}
 use lib.Ieee.{binary32, fin, sub, ofInt, ofBits}
-use Rattle.fused.proofs.SignedBytes.{above, above-under, wide-fits, sum-fits, sum-is, back}
+use Rattle.fused.proofs.SignedBytes.{above-under, wide-fits, sum-fits, sum-is, back}
 use Rattle.fused.proofs.q6k.to_f32.Statement.{statement}
 use Rattle.fused.proofs.q6k.to_f32.Tie as tie
 

@@ -1,6 +1,6 @@
 -- `block::quantize_block` meets its contract: the stored scale, and then the quants of its target. Assumes nothing.
-use mathlib.Core.Path.{_≡_, refl, sym, ap, _∙_, subst}
-use Prim.Native.Nat.{ℕ, _+_, _*_, _/_, _%_}
+use mathlib.Core.Path.{_≡_, refl, sym, ap, _∙_}
+use Prim.Native.Nat.{_+_, _*_, _/_, _%_}
 use mathlib.Core.List.{_++_}
 use lib.ListN.{length, getD, set, take, drop, length-set}
 use lib.Ieee.{nan, binary32, mul}

@@ -1,12 +1,7 @@
 -- `block::scale_of` meets its contract: each target its own. Assumes nothing.
-use mathlib.Core.Path.{_≡_, refl, sym, ap, _∙_, subst}
-use Prim.Native.Nat.{ℕ}
-use lib.Ieee.{binary32, div, ofBits, neg}
-use Rattle.numbers.specs.Readings.{largest, largestValue}
+use lib.Ieee.{ofBits, neg}
 use borrow.Author.Needs.{needs}
 use Rattle.quantizers.specs.Blocks.{scaleOf}
-use Rattle.quantizers.specs.declared.target.Target.{Target}
-use Rattle.quantizers.specs.declared.target.Target.the-variants.{Q40, Q80}
 use Rattle.quantizers.proofs.block.scale_of.Statement.{statement}
 use Rattle.quantizers.proofs.block.scale_of.Tie as tie
 

@@ -1,5 +1,5 @@
 -- `block::stored_scale` meets its contract. Assumes nothing.
-use mathlib.Core.Path.{_≡_, refl, sym, ap, _∙_, subst}
+use mathlib.Core.Path.{ap, _∙_}
 use Rattle.numbers.specs.Binary16.{narrowed}
 use borrow.Author.Needs.{needs}
 use Rattle.quantizers.specs.Blocks.{storedScale}

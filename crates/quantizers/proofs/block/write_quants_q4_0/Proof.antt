@@ -1,5 +1,5 @@
 -- `block::write_quants_q4_0` meets its contract: the places are filled in turn. Assumes nothing.
-use mathlib.Core.Path.{_≡_, refl, sym, ap, _∙_, subst}
+use mathlib.Core.Path.{sym, _∙_}
 use Prim.Native.Nat.{ℕ, _+_, _-_, _*_}
 use mathlib.Core.List.{List}
 use lib.ListN.{getD}
