@@ -1,6 +1,6 @@
--- Tests: that two whole numbers are the same, that a test holds at every place, and a test that is turned. Assumes nothing.
+-- Tests: that two whole numbers are the same, and that a test holds at every place. Assumes nothing.
 use mathlib.Core.Path.{_≡_, refl, sym, ap, _∙_}
-use mathlib.Core.Bool.{Bool, true, false, not, cond}
+use mathlib.Core.Bool.{Bool, true, false, cond}
 use mathlib.Core.Logic.{⊎-elim}
 use Prim.Native.Nat.{ℕ, zero, suc, _+_, _<_}
 use native.Mathlib.Nat.{not-suc-le-zero, eq-or-lt-of-le, le-of-suc-le-suc}
@@ -56,13 +56,3 @@ every-not p (suc k) j h e =
     (λ g. let e′ : p k ≡ false = ap p (sym g) ∙ e in rw e′ (cond-false (every p k)))
     (λ g. rw (every-not p k j g e))
     (eq-or-lt-of-le (le-of-suc-le-suc h))
-
--- ---- what a turned test says of the test
-
-pub was-false : (t : Bool) → not t ≡ true → t ≡ false
-was-false true e = sym e
-was-false false e = refl
-
-pub was-true : (t : Bool) → not t ≡ false → t ≡ true
-was-true true e = refl
-was-true false e = sym e

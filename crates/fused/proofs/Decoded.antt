@@ -1,16 +1,14 @@
 -- The fused dot is decoding the row and taking its dot: the same value, and the same refusals. Assumes nothing.
-use mathlib.Core.Path.{_≡_, refl, sym, ap, _∙_}
+use mathlib.Core.Path.{_≡_, sym, ap, _∙_}
 use mathlib.Core.List.{List}
-use Prim.Native.Nat.{ℕ, zero, suc, _%_, _≤_, _<_}
+use Prim.Native.Nat.{ℕ, _%_, _≤_, _<_}
 use native.Mathlib.Nat.{le-refl, le-trans, lt-of-lt-of-le}
-use native.Mathlib.Omega.{arith}
 use borrow.Author.Tests.{le-ltb, eq-eqb, eqb-true, not-false}
 use lib.Dec.{lit<}
 use lib.ListN.{length, getD, drop, List·getD-append}
 use lib.Ieee.{Float, nan, binary32, mul}
 use Rattle.refusals.specs.Said.{Said, done}
-use Rattle.refusals.specs.Refusals.{carriedOut}
-use Rattle.refusals.proofs.Laws.{given-none}
+use Rattle.refusals.proofs.Laws.{given-none, carried-done, carried-none}
 use Rattle.memory.specs.Lists.{table, filled}
 use Rattle.memory.proofs.Filled.{length-table, getD-table, length-filled}
 use Rattle.layouts.specs.Formats.{bytesK}
@@ -26,13 +24,7 @@ use Rattle.sums.proofs.RowLaws.{row-cong}
 use Rattle.fused.specs.Terms.{terms}
 use Rattle.fused.specs.Says.{fusedSays}
 
--- a call that says it is done gave no number, and its memory is as its work leaves it
-carried-out : {A : Type 0} (num : ℕ) (new old y : A) → carriedOut num new old ≡ (done, y) → (num ≡ 0) × (y ≡ new)
-unfolding carriedOut
-carried-out {A} zero new old y e = (refl, sym (ap (λ (q : Said × A). q .1) e))
-carried-out {A} (suc num) new old y e = let z : _≡_ {A = ℕ} 0 1 = cc (ap (λ (q : Said × A). q .0) e) in absurd (omega arith)
-
--- and so a decoder that says it is done was handed whole blocks
+-- a decoder that refuses nothing was handed whole blocks
 whole-blocks : (f : FormatK) (n room : ℕ) → dequantizeNo (OfK f) n room ≡ 0 → n % bytesK f ≡ 0
 unfolding dequantizeNo
 whole-blocks f n room e =
@@ -63,12 +55,14 @@ module _ (f : FormatK) (x : List Float) (w : List ℕ) (n : ℕ) where
   dot-of-output out y e enough =
       let v = valuesOf (OfK f) (length w) in
       let weights = weightAt (OfK f) w in
-      let d = carried-out (dequantizeNo (OfK f) (length w) (length out)) (filled weights out v) out y e in
-      let room = room-for-values (OfK f) (length w) (length out) (d .0) in
+      let num = dequantizeNo (OfK f) (length w) (length out) in
+      let no = carried-none num (filled weights out v) out (ap (λ (q : Said × List Float). q .0) e) in
+      let same : y ≡ filled weights out v = ap (λ (q : Said × List Float). q .1) (sym e ∙ carried-done num (filled weights out v) out no) in
+      let room = room-for-values (OfK f) (length w) (length out) no in
       let holds : Holds f w n (filled weights out v) = (
         rw (length-filled weights out v room) (le-trans enough room),
         λ i u.
             let k = lt-of-lt-of-le u enough in
             List·getD-append (table weights v) (drop v out) nan i (rw length-table k) ∙ getD-table weights v i nan k,
       ) in
-      dot-decoded y (rw (d .1) holds) (whole-blocks f (length w) (length out) (d .0)) enough
+      dot-decoded y (rw same holds) (whole-blocks f (length w) (length out) no) enough

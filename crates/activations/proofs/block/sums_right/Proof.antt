@@ -4,9 +4,10 @@ use mathlib.Core.Bool.{true, false≢true}
 use Prim.Native.Nat.{ℕ, _-_, _≤_, _<_}
 use native.Mathlib.Omega.{arith}
 use borrow.Author.Count.{below-none, below-more}
+use borrow.Author.Tests.{not-true, not-false}
 use Rattle.activations.specs.Whole.{elem, every, Within}
 use Rattle.activations.specs.Blocks.{rightAt, sumsRight}
-use Rattle.activations.proofs.Tests.{every-none, every-more, every-not, was-false, was-true}
+use Rattle.activations.proofs.Tests.{every-none, every-more, every-not}
 use Rattle.activations.proofs.block.sums_right.Statement.{statement}
 use Rattle.activations.proofs.block.sums_right.Tie as tie
 
@@ -26,7 +27,7 @@ returns : tie.Need-returns Inv-loop μ-loop
 unfolding sumsRight
 returns c =
     let r = c .before .sum-right in
-    (sym (every-not _ 8 (c .before .before .before .loop .j) (omega arith) (sym (r .ensures .0) ∙ was-false (r .result) (c .if1 .taken))), λ e. absurd (false≢true e))
+    (sym (every-not _ 8 (c .before .before .before .loop .j) (omega arith) (sym (r .ensures .0) ∙ not-true (r .result) (c .if1 .taken))), λ e. absurd (false≢true e))
 
 add-j : tie.Need-add-j Inv-loop μ-loop
 add-j c = omega arith
@@ -38,7 +39,7 @@ loop-again : tie.Need-loop-again Inv-loop μ-loop
 loop-again c =
     let l = c .before .before .before .loop in
     let r = c .before .sum-right in
-    (omega arith, every-more _ _ (l .inv .1) (sym (r .ensures .0) ∙ was-true (r .result) (c .if1 .left)), below-more _ _ (l .inv .2) (r .ensures .1 (was-true (r .result) (c .if1 .left))))
+    (omega arith, every-more _ _ (l .inv .1) (sym (r .ensures .0) ∙ not-false (r .result) (c .if1 .left)), below-more _ _ (l .inv .2) (r .ensures .1 (not-false (r .result) (c .if1 .left))))
 
 returns-2 : tie.Need-returns-2 Inv-loop μ-loop
 unfolding sumsRight

@@ -1,13 +1,12 @@
 -- `dot::dot_q4k_q8_block` meets its contract. Assumes nothing.
 use mathlib.Core.Path.{sym, ap, _∙_}
 use native.Mathlib.Omega.{arith}
-use borrow.Author.Tests.{lt-ltb, le-ltb}
+use borrow.Author.Tests.{lt-ltb, le-ltb, not-true, not-false}
 use lib.ListN.{take}
 use lib.Seq.{length-take-le}
 use Rattle.refusals.specs.Said.{value}
 use Rattle.layouts.specs.declared.format.FormatK.the-variants.{Q4K}
 use Rattle.activations.specs.Dots.{blockDot, dotQ4kSays}
-use Rattle.activations.proofs.Tests.{was-false, was-true}
 use borrow.Author.Needs.{needs}
 use Rattle.activations.proofs.dot.dot_q4k_q8_block.Statement.{statement}
 use Rattle.activations.proofs.dot.dot_q4k_q8_block.Tie as tie
@@ -23,7 +22,7 @@ returns-2 : tie.Need-returns-2
 unfolding dotQ4kSays
 returns-2 c =
     let r = c .before .sums-right in
-    let wrong = sym (r .ensures .0) ∙ was-false (r .result) (c .if2 .taken) in
+    let wrong = sym (r .ensures .0) ∙ not-true (r .result) (c .if2 .taken) in
     simp (le-ltb _ _ (c .before .before .if1 .left), wrong)
 
 slice-aggregate-block-dot-q4k : tie.Need-slice-aggregate-block-dot-q4k
@@ -36,7 +35,7 @@ block-dot-q4k-requires : tie.Need-block-dot-q4k-requires
 block-dot-q4k-requires c κs =
     let b = c .before .before in
     let r = b .before .sums-right in
-    (length-take-le 144 (b .before .before .before .before .args .w .now) (omega arith), r .ensures .1 (was-true (r .result) (b .if2 .left)), omega arith)
+    (length-take-le 144 (b .before .before .before .before .args .w .now) (omega arith), r .ensures .1 (not-false (r .result) (b .if2 .left)), omega arith)
 
 returns-3 : tie.Need-returns-3
 unfolding dotQ4kSays
@@ -44,7 +43,7 @@ returns-3 c =
     let b = c .before .before .before in
     let a = b .before .before .before .before .args in
     let r = b .before .sums-right in
-    let right = sym (r .ensures .0) ∙ was-true (r .result) (b .if2 .left) in
+    let right = sym (r .ensures .0) ∙ not-false (r .result) (b .if2 .left) in
     simp (le-ltb _ _ (b .before .before .if1 .left), right) (ap value (c .block-dot-q4k .ensures ∙ ap (blockDot Q4K (take 144 (a .w .now)) (a .xq)) (c .before .at-most-256 .ensures)))
 
 pub dot-q4k-q8-block-spec : {M : Type 1} → statement M
