@@ -1,14 +1,15 @@
--- A K block's values in run e of 16: what a turn of its decoder puts there is what the layout says. Assumes nothing.
-use mathlib.Core.Path.{_≡_, sym, ap, _∙_}
-use Prim.Native.Nat.{ℕ, _+_, _*_, _/_, _≤_, _<_}
-use native.Mathlib.Nat.{add-zero}
+-- A block decoded in runs of 16, which are lent in turn, and a K block's values in run e: what a turn of its decoder puts there is what the layout says. Assumes nothing.
+use mathlib.Core.Path.{_≡_, refl, sym, ap, _∙_}
+use Prim.Native.Nat.{ℕ, _+_, _-_, _*_, _/_, _≤_, _<_}
+use native.Mathlib.Nat.{add-zero, le-of-eq}
 use native.Mathlib.Omega.{arith}
 use mathlib.Core.List.{List}
 use lib.IntN.{ℤ, pos}
 use lib.ListN.{length, getD, take, drop}
 use lib.Ieee.{Float, nan, binary32, mul, sub, ofInt}
 use Rattle.memory.specs.Lists.{table}
-use Rattle.memory.proofs.Filled.{getD-table, length-table, table-part}
+use Rattle.memory.proofs.Filled.{getD-table, length-table, table-part, filled-all, part-length}
+use Rattle.memory.proofs.Parts.{InParts, parts-done}
 use Rattle.layouts.specs.K.{scaleQ4K, minimumQ4K, quantQ4K, quantQ6K, scaleQ6K, dOf, dminOf, valueK}
 use Rattle.layouts.specs.declared.format.FormatK.the-variants.{Q4K, Q6K}
 use Rattle.layouts.proofs.Scales.{scale-run}
@@ -16,6 +17,19 @@ use Rattle.layouts.proofs.Scales.{scale-run}
 -- a part that lies within the n places of a table lies within the list
 pub in-table : {A : Type 0} (f : ℕ → A) (q : List A) (n k : ℕ) → q ≡ table f n → k ≤ n → k ≤ length q
 in-table f q n k h u = rw (h, length-table f n) u
+
+-- run e of a block of so many is lent, of its whole numbers and of the output: each part has 16 places
+pub run-lengths : {A : Type 0} (p : ℕ → A) (q : List A) (out : List Float) (runs e : ℕ) → q ≡ table p (16 * runs) → length out ≡ 16 * runs → e < runs
+    → (length (take (16 * e + 16 - 16 * e) (drop (16 * e) q)) ≡ 16) × (length (take (16 * e + 16 - 16 * e) (drop (16 * e) out)) ≡ 16)
+run-lengths p q out runs e t n h =
+    let room : 16 * e + 16 ≤ 16 * runs = omega arith in
+    (part-length q (16 * e) 16 (16 * e + 16) refl (in-table p q (16 * runs) (16 * e + 16) t room), part-length out (16 * e) 16 (16 * e + 16) refl (omega arith))
+
+-- the runs are filled: so is the block
+pub runs-done : (f : ℕ → Float) (old out : List Float) (runs e : ℕ) → length old ≡ 16 * runs → runs ≤ e → InParts f old (λ r. 16 * r) runs out e → out ≡ table f (16 * runs)
+runs-done f old out runs e n h p = parts-done f old (λ r. 16 * r) runs out e h p ∙ filled-all f old (16 * runs) (le-of-eq n)
+
+-- ---- a K block's values
 
 module _ (bs : List ℕ) (e l n : ℕ) (k : n ≡ 16) (u : e < 16) (v : l < 16) where
   room : 16 * e + 16 ≤ 256

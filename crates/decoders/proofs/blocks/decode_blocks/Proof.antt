@@ -1,22 +1,22 @@
 -- `blocks::decode_blocks` meets its contract: in turn b block b is decoded into its own places. Assumes nothing.
 use mathlib.Core.Path.{_≡_, refl, sym, ap, _∙_}
-use Prim.Native.Nat.{_+_, _-_, _*_, _/_, _≤_, _<_, zero-le}
-use native.Mathlib.Nat.{le-antisymm, lt-of-lt-of-le, zero-mul, suc-mul, div-le-self}
+use Prim.Native.Nat.{_+_, _-_, _*_, _/_, _≤_, _<_}
+use native.Mathlib.Nat.{zero-mul, suc-mul}
 use native.Mathlib.Numerals.{add-one}
 use lib.ListN.{length, take, drop}
 use Rattle.memory.specs.Lists.{table, filled}
-use Rattle.memory.proofs.Filled.{filled-none, part-length, part-turn}
+use Rattle.memory.proofs.Filled.{part-length}
 use native.Mathlib.Omega.{arith}
 use borrow.Author.Needs.{needs}
 use Rattle.layouts.specs.Formats.{blockBytes, blockValues}
 use Rattle.layouts.specs.Weights.{valueIn, weightAt}
-use Rattle.memory.proofs.Parts.{within, within-whole}
+use Rattle.memory.proofs.Parts.{part-within, InParts, parts-none, parts-more, parts-done}
 use Rattle.layouts.proofs.Sizes.{sizes, placed}
 use Rattle.decoders.proofs.blocks.decode_blocks.Statement.{statement}
 use Rattle.decoders.proofs.blocks.decode_blocks.Tie as tie
 
 abbrev Inv-loop : tie.InvT-loop
-Inv-loop format bytes out₀ size values count b₀ out b = (out ≡ filled (weightAt format bytes) out₀ (b * values)) × (b ≤ count) × (length out ≡ length out₀)
+Inv-loop format bytes out₀ size values count b₀ out b = InParts (weightAt format bytes) out₀ (λ k. k * values) count out b
 
 abbrev μ-loop : tie.MeasureT-loop
 μ-loop format bytes out₀ size values count b₀ out b = count - b
@@ -31,7 +31,9 @@ div-count : tie.Need-div-count Inv-loop μ-loop
 div-count c = omega (arith, sizes (c .before .before .before .before .args .format), c .before .block-bytes .ensures)
 
 loop-holds : tie.Need-loop-holds Inv-loop μ-loop
-loop-holds c = (rw zero-mul (filled-none (weightAt (c .before .before .before .before .args .format) (c .before .before .before .before .args .bytes .now)) (c .before .before .before .before .args .out .now)), zero-le, refl)
+loop-holds c =
+    let a = c .before .before .before .before .args in
+    parts-none (weightAt (a .format) (a .bytes .now)) (a .out .now) (λ k. k * c .block-values .result) _ (zero-mul _)
 
 -- block b lies within the bytes, its values lie within the output, and there are fewer blocks than bytes
 facts : (c : tie.In-loop Inv-loop μ-loop)
@@ -41,14 +43,9 @@ facts : (c : tie.In-loop Inv-loop μ-loop)
     (b * size + size ≤ length (c .before .before .before .before .before .before .args .bytes .now)) × (b * v + v ≤ length (c .before .before .before .before .before .before .args .out .now)) × (b < length (c .before .before .before .before .before .before .args .bytes .now)))
 facts c =
     let t = c .before .before .before .before .before .before in
-    let b = c .before .loop .b in
     let size = c .before .before .before .block-bytes in
     let values = c .before .before .block-values in
-    let h = c .loop-test .taken in
-    let room : length (t .args .bytes .now) / size .result * values .result ≤ length (t .args .out .now) = rw (size .ensures, values .ensures) (t .pre) in
-    let in-bytes = within-whole b (size .result) (length (t .args .bytes .now)) h in
-    let in-out = within b (values .result) (length (t .args .bytes .now) / size .result) (length (t .args .out .now)) h room in
-    (in-bytes, in-out, lt-of-lt-of-le h (div-le-self (length (t .args .bytes .now)) (size .result)))
+    part-within (c .before .loop .b) (size .result) (values .result) (length (t .args .bytes .now)) (length (t .args .out .now)) (c .loop-test .taken) (rw (size .ensures, values .ensures) (t .pre))
 
 mul-from : tie.Need-mul-from Inv-loop μ-loop
 mul-from c = omega (arith, facts c)
@@ -114,11 +111,7 @@ loop-again c =
     let W : v ≡ blockValues f = d .before .before .block-values .ensures in
     let b = l .b in
     let g = valueIn f (take (b * size + size - b * size) (drop (b * size) bs)) in
-    let next : (b + 1) * v ≡ b * v + v = rw add-one (suc-mul b v) in
-    let p =
-    part-turn (weightAt f bs) g (t .args .out .now) (l .out) (c .before .before .decode-block .last .1 .1 .0) (b * v) v (b * v + v) ((b + 1) * v) refl next (facts d .1) (l .inv .0)
-    (c .before .before .decode-block .ensures ∙ ap (table g) (sym W)) (λ i h. placed f bs b i size v S W h) in
-    (p .0, omega (arith, d .loop-test .taken), p .1)
+    parts-more (weightAt f bs) (t .args .out .now) (λ k. k * v) (length bs / size) g (l .out) _ b v (d .loop-test .taken) (rw add-one (suc-mul b v)) (facts d .1) (c .before .before .decode-block .ensures ∙ ap (table g) (sym W)) (λ i h. placed f bs b i size v S W h) (l .inv)
 
 same-length : tie.Need-same-length Inv-loop μ-loop
 same-length c = c .before .loop .inv .2
@@ -129,8 +122,9 @@ returns c =
     let t = c .before .before .before .before .before .before in
     let f = t .args .format in
     let bs = t .args .bytes .now in
-    let e : l .b ≡ length bs / c .before .before .before .block-bytes .result = le-antisymm (l .inv .1) (c .loop-test .left) in
-    l .inv .0 ∙ ap (filled (weightAt f bs) (t .args .out .now)) (rw (e, c .before .before .before .block-bytes .ensures, c .before .before .block-values .ensures))
+    let size = c .before .before .before .block-bytes in
+    let values = c .before .before .block-values in
+    parts-done (weightAt f bs) (t .args .out .now) (λ k. k * values .result) (length bs / size .result) (l .out) (l .b) (c .loop-test .left) (l .inv) ∙ ap (filled (weightAt f bs) (t .args .out .now)) (rw (size .ensures, values .ensures))
 
 pub decode-blocks-spec : {M : Type 1} → statement M
 decode-blocks-spec =

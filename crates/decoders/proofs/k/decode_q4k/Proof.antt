@@ -1,22 +1,17 @@
 -- `k::decode_q4k` meets its contract: in turn e the run of 16 from 16 e on is filled. Assumes nothing.
-use mathlib.Core.Path.{_≡_, refl, sym, ap, _∙_}
-use Prim.Native.Nat.{_+_, _-_, _*_, _/_, _≤_}
-use native.Mathlib.Nat.{le-of-eq}
-use lib.IntN.{pos}
-use lib.ListN.{length, getD, take, drop}
-use lib.Ieee.{nan, binary32, mul, sub, ofInt}
-use Rattle.memory.specs.Lists.{filled}
-use Rattle.memory.proofs.Filled.{filled-none, filled-all, part-length, part-turn}
+use mathlib.Core.Path.{refl, _∙_}
+use Prim.Native.Nat.{_+_, _-_, _*_}
 use native.Mathlib.Omega.{arith}
 use borrow.Author.Needs.{needs}
 use Rattle.layouts.specs.K.{quantQ4K, valueK}
 use Rattle.layouts.specs.declared.format.FormatK.the-variants.{Q4K}
-use Rattle.decoders.proofs.Runs.{in-table, q4k-run}
+use Rattle.memory.proofs.Parts.{InParts, parts-none, parts-more}
+use Rattle.decoders.proofs.Runs.{in-table, run-lengths, runs-done, q4k-run}
 use Rattle.decoders.proofs.k.decode_q4k.Statement.{statement}
 use Rattle.decoders.proofs.k.decode_q4k.Tie as tie
 
 abbrev Inv-loop : tie.InvT-loop
-Inv-loop block out₀ scales minimums q e₀ out e = (out ≡ filled (valueK Q4K block) out₀ (16 * e)) × (e ≤ 16) × (length out ≡ 256)
+Inv-loop block out₀ scales minimums q e₀ out e = InParts (valueK Q4K block) out₀ (λ r. 16 * r) 16 out e
 
 abbrev μ-loop : tie.MeasureT-loop
 μ-loop block out₀ scales minimums q e₀ out e = 16 - e
@@ -31,7 +26,7 @@ quants-q4k-requires : tie.Need-quants-q4k-requires Inv-loop μ-loop
 quants-q4k-requires c κs = search needs
 
 loop-holds : tie.Need-loop-holds Inv-loop μ-loop
-loop-holds c = (filled-none (valueK Q4K (c .before .before .before .before .before .args .block .now)) (c .before .before .before .before .before .args .out .now), omega arith, c .before .before .before .before .before .pre .1)
+loop-holds c = let a = c .before .before .before .before .before .args in parts-none (valueK Q4K (a .block .now)) (a .out .now) (λ r. 16 * r) 16 refl
 
 mul-at : tie.Need-mul-at Inv-loop μ-loop
 mul-at c = omega arith
@@ -75,11 +70,9 @@ part-scale-run-less-end-2 c = omega arith
 scale-run-less-requires : tie.Need-scale-run-less-requires Inv-loop μ-loop
 scale-run-less-requires c κs =
     let l = c .before .before .before .before .loop in
+    let q = c .before .before .before .before .before .quants-q4k in
     let t = c .before .before .before .before .before .before .before .before .before .before in
-    let r : 16 * l .e + 16 ≤ length (l .out) = omega arith in (
-      part-length (c .before .before .before .before .before .quants-q4k .result) (16 * l .e) 16 (16 * l .e + 16) refl (in-table (quantQ4K (t .args .block .now)) (c .before .before .before .before .before .quants-q4k .result) 256 (16 * l .e + 16) (c .before .before .before .before .before .quants-q4k .ensures) (omega arith)),
-      part-length (l .out) (16 * l .e) 16 (16 * l .e + 16) refl r,
-    )
+    run-lengths (quantQ4K (t .args .block .now)) (q .result) (l .out) 16 (l .e) (q .ensures) (l .inv .2 ∙ t .pre .1) (omega arith)
 
 add-e : tie.Need-add-e Inv-loop μ-loop
 add-e c = omega arith
@@ -95,28 +88,19 @@ loop-again c =
     let t = c .before .before .before .before .before .before .before .before .before .before .before .before .before in
     let bs = t .args .block .now in
     let e = l .e in
-    let n : 16 * e + 16 - 16 * e ≡ 16 = omega arith in
-    let next : 16 * (e + 1) ≡ 16 * e + 16 = omega arith in
-    let room : 16 * e + 16 ≤ length (t .args .out .now) = omega (arith, t .pre .1) in
-    let q = f .quants-q4k .result in
-    let s = f .before .before .scales-q4k .result in
-    let m = f .before .minimums-q4k .result in
-    let p =
-    part-turn (valueK Q4K bs)
-    (λ i. sub binary32 (mul binary32 (getD s (e / 2) nan) (ofInt binary32 (pos (getD (take (16 * e + 16 - 16 * e) (drop (16 * e) q)) i 0)))) (getD m (e / 2) nan))
-    (t .args .out .now) (l .out) (c .before .before .scale-run-less .last .1 .1 .1 .0) (16 * e) 16 (16 * e + 16) (16 * (e + 1)) refl next room (l .inv .0) (c .before .before .scale-run-less .ensures)
-    (λ i g. q4k-run bs e i (16 * e + 16 - 16 * e) n h g s m q (f .before .before .scales-q4k .ensures) (f .before .minimums-q4k .ensures) (f .quants-q4k .ensures)) in
-    (p .0, omega arith, p .1 ∙ t .pre .1)
+    let q = f .quants-q4k in
+    let m = f .before .minimums-q4k in
+    let s = f .before .before .scales-q4k in
+    parts-more (valueK Q4K bs) (t .args .out .now) (λ r. 16 * r) 16 _ (l .out) _ e 16 h (omega arith) (omega (arith, t .pre .1)) (c .before .before .scale-run-less .ensures) (λ i g. q4k-run bs e i (16 * e + 16 - 16 * e) (omega arith) h g (s .result) (m .result) (q .result) (s .ensures) (m .ensures) (q .ensures)) (l .inv)
 
 same-length : tie.Need-same-length Inv-loop μ-loop
-same-length c = c .before .loop .inv .2 ∙ sym (c .before .before .before .before .before .before .before .pre .1)
+same-length c = c .before .loop .inv .2
 
 returns : tie.Need-returns Inv-loop μ-loop
 returns c =
     let l = c .before .loop in
     let t = c .before .before .before .before .before .before .before in
-    let e : 16 * l .e ≡ 256 = omega arith in
-    l .inv .0 ∙ ap (filled (valueK Q4K (t .args .block .now)) (t .args .out .now)) e ∙ filled-all (valueK Q4K (t .args .block .now)) (t .args .out .now) 256 (le-of-eq (t .pre .1))
+    runs-done (valueK Q4K (t .args .block .now)) (t .args .out .now) (l .out) 16 (l .e) (t .pre .1) (omega arith) (l .inv)
 
 pub decode-q4k-spec : {M : Type 1} → statement M
 decode-q4k-spec =

@@ -1,20 +1,19 @@
 -- `of32::decode_32` meets its contract, over the layout: in turn e the run of 16 from 16 e on is filled. Assumes nothing.
-use mathlib.Core.Path.{_≡_, refl, sym, ap, _∙_}
-use Prim.Native.Nat.{ℕ, _+_, _-_, _*_, _≤_}
-use native.Mathlib.Nat.{le-of-eq}
+use mathlib.Core.Path.{refl, _≡_, ap, _∙_}
+use Prim.Native.Nat.{ℕ, _+_, _-_, _*_}
 use mathlib.Core.List.{List}
 use lib.IntN.{ℤ, pos}
-use lib.ListN.{length, getD, take, drop}
+use lib.ListN.{getD}
 use lib.Ieee.{Float, binary32, mul, ofInt}
 use Rattle.numbers.specs.Binary16.{widened}
 use Rattle.numbers.specs.Fields.{le16}
-use Rattle.memory.specs.Lists.{filled}
-use Rattle.memory.proofs.Filled.{filled-none, filled-all, part-length, part-turn, part-at, getD-table, table-ext}
+use Rattle.memory.proofs.Filled.{part-at, getD-table, table-ext}
 use native.Mathlib.Omega.{arith}
 use borrow.Author.Needs.{needs}
 use Rattle.layouts.specs.Of32.{quant32, value32}
 use Rattle.layouts.proofs.Sizes.{least-32}
-use Rattle.decoders.proofs.Runs.{in-table}
+use Rattle.memory.proofs.Parts.{InParts, parts-none, parts-more}
+use Rattle.decoders.proofs.Runs.{in-table, run-lengths, runs-done}
 use Rattle.decoders.proofs.of32.decode_32.Statement.{statement}
 use Rattle.decoders.proofs.of32.decode_32.Tie as tie
 
@@ -23,7 +22,7 @@ abbrev at : Float → List ℤ → ℕ → Float
 at s q i = mul binary32 s (ofInt binary32 (getD q i (pos 0)))
 
 abbrev Inv-loop : tie.InvT-loop
-Inv-loop block out₀ s q e₀ out e = (out ≡ filled (at s q) out₀ (16 * e)) × (e ≤ 2) × (length out ≡ 32)
+Inv-loop block out₀ s q e₀ out e = InParts (at s q) out₀ (λ r. 16 * r) 2 out e
 
 abbrev μ-loop : tie.MeasureT-loop
 μ-loop block out₀ s q e₀ out e = 2 - e
@@ -44,7 +43,7 @@ quants-32-requires : tie.Need-quants-32-requires Inv-loop μ-loop
 quants-32-requires c κs = c .before .before .before .before .before .before .pre .0
 
 loop-holds : tie.Need-loop-holds Inv-loop μ-loop
-loop-holds c = (filled-none (at (c .before .f16-to-f32 .result) (c .quants-32 .result)) (c .before .before .before .before .before .before .before .args .out .now), omega arith, c .before .before .before .before .before .before .before .pre .1)
+loop-holds c = parts-none (at (c .before .f16-to-f32 .result) (c .quants-32 .result)) (c .before .before .before .before .before .before .before .args .out .now) (λ r. 16 * r) 2 refl
 
 mul-at : tie.Need-mul-at Inv-loop μ-loop
 mul-at c = omega arith
@@ -78,10 +77,7 @@ scale-run-requires c κs =
     let l = c .before .before .before .before .loop in
     let t = c .before .before .before .before .before .before .before .before .before .before .before .before in
     let q = c .before .before .before .before .before .quants-32 in
-    let r : 16 * l .e + 16 ≤ length (l .out) = omega arith in (
-      part-length (q .result) (16 * l .e) 16 (16 * l .e + 16) refl (in-table (quant32 (t .args .format) (t .args .block .now)) (q .result) 32 (16 * l .e + 16) (q .ensures) (omega arith)),
-      part-length (l .out) (16 * l .e) 16 (16 * l .e + 16) refl r,
-    )
+    run-lengths (quant32 (t .args .format) (t .args .block .now)) (q .result) (l .out) 2 (l .e) (q .ensures) (l .inv .2 ∙ t .pre .1) (omega arith)
 
 add-e : tie.Need-add-e Inv-loop μ-loop
 add-e c = omega arith
@@ -97,16 +93,10 @@ loop-again c =
     let t = c .before .before .before .before .before .before .before .before .before .before .before .before .before .before .before in
     let e = l .e in
     let n : 16 * e + 16 - 16 * e ≡ 16 = omega arith in
-    let next : 16 * (e + 1) ≡ 16 * e + 16 = omega arith in
-    let room : 16 * e + 16 ≤ length (t .args .out .now) = omega (arith, t .pre .1) in
-    let p =
-    part-turn (at s q) (λ i. mul binary32 s (ofInt binary32 (getD (take (16 * e + 16 - 16 * e) (drop (16 * e) q)) i (pos 0))))
-    (t .args .out .now) (l .out) (c .before .before .scale-run .last .1 .1 .0) (16 * e) 16 (16 * e + 16) (16 * (e + 1)) refl next room (l .inv .0) (c .before .before .scale-run .ensures)
-    (λ i g. rw (n, part-at q (16 * e) 16 i (pos 0) g)) in
-    (p .0, omega arith, p .1 ∙ t .pre .1)
+    parts-more (at s q) (t .args .out .now) (λ r. 16 * r) 2 _ (l .out) _ e 16 (omega arith) (omega arith) (omega (arith, t .pre .1)) (c .before .before .scale-run .ensures) (λ i g. rw (n, part-at q (16 * e) 16 i (pos 0) g)) (l .inv)
 
 same-length : tie.Need-same-length Inv-loop μ-loop
-same-length c = c .before .loop .inv .2 ∙ sym (c .before .before .before .before .before .before .before .before .before .pre .1)
+same-length c = c .before .loop .inv .2
 
 returns : tie.Need-returns Inv-loop μ-loop
 returns c =
@@ -116,11 +106,8 @@ returns c =
     let t = c .before .before .before .before .before .before .before .before .before in
     let f = t .args .format in
     let bs = t .args .block .now in
-    let e : 16 * l .e ≡ 32 = omega arith in
     let scale : s .result ≡ widened (le16 bs 0) = s .ensures ∙ ap widened (c .before .before .before .before .le-u16 .ensures) in
-    l .inv .0
-    ∙ ap (filled (at (s .result) (q .result)) (t .args .out .now)) e
-    ∙ filled-all (at (s .result) (q .result)) (t .args .out .now) 32 (le-of-eq (t .pre .1))
+    runs-done (at (s .result) (q .result)) (t .args .out .now) (l .out) 2 (l .e) (t .pre .1) (omega arith) (l .inv)
     ∙ table-ext (at (s .result) (q .result)) (value32 f bs) 32 (λ i h. rw (scale, q .ensures, getD-table (quant32 f bs) 32 i (pos 0) h))
 
 pub decode-32-spec : {M : Type 1} → statement M

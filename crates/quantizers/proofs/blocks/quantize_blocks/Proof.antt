@@ -1,12 +1,12 @@
 -- `blocks::quantize_blocks` meets its contract: in turn b block b is quantised into its own places. Assumes nothing.
-use mathlib.Core.Path.{_≡_, refl, sym, ap, _∙_, subst}
-use Prim.Native.Nat.{ℕ, _+_, _-_, _*_, _/_, _≤_, _<_, zero-le}
-use native.Mathlib.Nat.{le-antisymm, lt-of-lt-of-le, zero-mul, suc-mul, div-le-self}
+use mathlib.Core.Path.{_≡_, refl, sym, ap, _∙_}
+use Prim.Native.Nat.{_+_, _-_, _*_, _/_, _≤_, _<_}
+use native.Mathlib.Nat.{zero-mul, suc-mul}
 use native.Mathlib.Numerals.{add-one}
 use lib.ListN.{length, take, drop}
 use Rattle.memory.specs.Lists.{table, filled}
-use Rattle.memory.proofs.Filled.{filled-none, part-length, part-turn}
-use Rattle.memory.proofs.Parts.{within, within-whole}
+use Rattle.memory.proofs.Filled.{part-length}
+use Rattle.memory.proofs.Parts.{part-within, InParts, parts-none, parts-more, parts-done}
 use native.Mathlib.Omega.{arith}
 use borrow.Author.Needs.{needs}
 use Rattle.quantizers.specs.Blocks.{blockSize, byteAt}
@@ -16,7 +16,7 @@ use Rattle.quantizers.proofs.blocks.quantize_blocks.Statement.{statemen
 use Rattle.quantizers.proofs.blocks.quantize_blocks.Tie as tie
 
 abbrev Inv-loop : tie.InvT-loop
-Inv-loop target x out₀ size count b₀ out b = (out ≡ filled (packedAt target x) out₀ (b * size)) × (b ≤ count) × (length out ≡ length out₀)
+Inv-loop target x out₀ size count b₀ out b = InParts (packedAt target x) out₀ (λ k. k * size) count out b
 
 abbrev μ-loop : tie.MeasureT-loop
 μ-loop target x out₀ size count b₀ out b = count - b
@@ -25,7 +25,9 @@ block-size-requires : tie.Need-block-size-requires Inv-loop μ-loop
 block-size-requires c κs = search needs
 
 loop-holds : tie.Need-loop-holds Inv-loop μ-loop
-loop-holds c = (rw zero-mul (filled-none (packedAt (c .before .before .before .args .target) (c .before .before .before .args .x .now)) (c .before .before .before .args .out .now)), zero-le, refl)
+loop-holds c =
+    let a = c .before .before .before .args in
+    parts-none (packedAt (a .target) (a .x .now)) (a .out .now) (λ k. k * c .block-size .result) _ (zero-mul _)
 
 -- block b's readings lie within the readings, its bytes lie within the output, and there are fewer blocks than readings
 facts : (c : tie.In-loop Inv-loop μ-loop)
@@ -35,12 +37,8 @@ facts : (c : tie.In-loop Inv-loop μ-loop)
     (b * 32 + 32 ≤ length (t .args .x .now)) × (b * size + size ≤ length (t .args .out .now)) × (b < length (t .args .x .now)))
 facts c =
     let t = c .before .before .before .before .before in
-    let b = c .before .loop .b in
     let size = c .before .before .block-size in
-    let n = length (t .args .x .now) in
-    let h = c .loop-test .taken in
-    let room : n / 32 * size .result ≤ length (t .args .out .now) = rw (size .ensures) (t .pre) in
-    (within-whole b 32 n h, within b (size .result) (n / 32) (length (t .args .out .now)) h room, lt-of-lt-of-le h (div-le-self n 32))
+    part-within (c .before .loop .b) 32 (size .result) (length (t .args .x .now)) (length (t .args .out .now)) (c .loop-test .taken) (rw (size .ensures) (t .pre))
 
 mul-from : tie.Need-mul-from Inv-loop μ-loop
 mul-from c = omega (arith, facts c)
@@ -103,11 +101,7 @@ loop-again c =
     let S : size ≡ blockSize u = d .before .before .block-size .ensures in
     let b = l .b in
     let g = byteAt u (take (b * 32 + 32 - b * 32) (drop (b * 32) xs)) in
-    let next : (b + 1) * size ≡ b * size + size = rw add-one (suc-mul b size) in
-    let p =
-    part-turn (packedAt u xs) g (t .args .out .now) (l .out) (c .before .before .quantize-block .last .1 .1 .0) (b * size) size (b * size + size) ((b + 1) * size) refl next (facts d .1) (l .inv .0)
-    (c .before .before .quantize-block .ensures ∙ ap (table g) (sym S)) (λ i h. placed u xs b i size S h) in
-    (p .0, omega (arith, d .loop-test .taken), p .1)
+    parts-more (packedAt u xs) (t .args .out .now) (λ k. k * size) (length xs / 32) g (l .out) _ b size (d .loop-test .taken) (rw add-one (suc-mul b size)) (facts d .1) (c .before .before .quantize-block .ensures ∙ ap (table g) (sym S)) (λ i h. placed u xs b i size S h) (l .inv)
 
 same-length : tie.Need-same-length Inv-loop μ-loop
 same-length c = c .before .loop .inv .2
@@ -118,8 +112,8 @@ returns c =
     let t = c .before .before .before .before .before in
     let u = t .args .target in
     let xs = t .args .x .now in
-    let e : l .b ≡ length xs / 32 = le-antisymm (l .inv .1) (c .loop-test .left) in
-    l .inv .0 ∙ ap (filled (packedAt u xs) (t .args .out .now)) (rw (e, c .before .before .block-size .ensures))
+    let size = c .before .before .block-size in
+    parts-done (packedAt u xs) (t .args .out .now) (λ k. k * size .result) (length xs / 32) (l .out) (l .b) (c .loop-test .left) (l .inv) ∙ ap (filled (packedAt u xs) (t .args .out .now)) (rw (size .ensures))
 
 pub quantize-blocks-spec : {M : Type 1} → statement M
 quantize-blocks-spec =
