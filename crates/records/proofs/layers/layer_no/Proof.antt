@@ -8,6 +8,7 @@ use borrow.Author.Tests.{lt-ltb, le-ltb, eq-eqb, ne-eqb, not-false}
 use denote.Ref.{now}
 use lib.Dec.{ltb, eqb}
 use lib.ListN.{length}
+use Rattle.refusals.specs.Refusals.{none, given}
 use Rattle.refusals.proofs.Laws.{given-yes, given-no, else-first, else-later}
 use Rattle.layouts.specs.Formats.{knownFormat}
 use Rattle.records.specs.Kinds.{formatIn, inFeatIn, outFeatIn, weightBytes, sizesNo, layerRecordNo}
@@ -87,6 +88,15 @@ bytes c =
     let z = c .before .before in
     c .weight-bytes .ensures ∙ same-bytes _ _ _ _ _ (z .before .before .u32-at .ensures .0) (z .before .u32-at2 .ensures .0)
 
+-- the head, the format and the sizes passed: what is left is the weights' length
+to-weights : (c : tie.After-weight-bytes) → let p = now (c .before .before .before .before .before .before .before .before .before .before .args .p) in
+    layerRecordNo p ≡ given 11 (not (eqb (length p) (9 + weightBytes (formatIn p) (inFeatIn p) (outFeatIn p)))) none
+unfolding layerRecordNo
+to-weights c =
+    let z = c .before .before in
+    let k = z .before .before .before in
+    given-no 11 _ _ (head (k .before .before .before)) ∙ given-no 12 _ _ (ap not (known k)) ∙ else-later _ _ (sym (sizes z) ∙ c .before .if3 .left)
+
 -- so many weights follow the head, or not
 unlike : (size need want : ℕ) → 9 ≤ size → need ≡ want → (size - 9 ≡ need → ⊥) → not (eqb size (9 + want)) ≡ true
 unlike size need want h e n = ap not (ne-eqb size (9 + want) (λ (z : size ≡ 9 + want). n (omega arith)))
@@ -95,30 +105,16 @@ alike : (size need want : ℕ) → 9 ≤ size → need ≡ want → size - 9 ≡
 alike size need want h e n = ap not (eq-eqb size (9 + want) (omega arith))
 
 returns-4 : tie.Need-returns-4
-unfolding layerRecordNo
 returns-4 c =
     let w = c .before in
-    let z = w .before .before in
-    let k = z .before .before .before in
-    let a = k .before .before .before in
-    sym
-    (given-no 11 _ _ (head a)
-    ∙ given-no 12 _ _ (ap not (known k))
-    ∙ else-later _ _ (sym (sizes z) ∙ w .before .if3 .left)
-    ∙ given-yes 11 _ _ (unlike _ _ _ (a .if1 .left) (bytes w) (c .if4 .taken)))
+    let a = w .before .before .before .before .before .before .before .before in
+    sym (to-weights w ∙ given-yes 11 _ _ (unlike _ _ _ (a .if1 .left) (bytes w) (c .if4 .taken)))
 
 returns-5 : tie.Need-returns-5
-unfolding layerRecordNo
 returns-5 c =
     let w = c .before in
-    let z = w .before .before in
-    let k = z .before .before .before in
-    let a = k .before .before .before in
-    sym
-    (given-no 11 _ _ (head a)
-    ∙ given-no 12 _ _ (ap not (known k))
-    ∙ else-later _ _ (sym (sizes z) ∙ w .before .if3 .left)
-    ∙ given-no 11 _ _ (alike _ _ _ (a .if1 .left) (bytes w) (c .if4 .left)))
+    let a = w .before .before .before .before .before .before .before .before in
+    sym (to-weights w ∙ given-no 11 _ _ (alike _ _ _ (a .if1 .left) (bytes w) (c .if4 .left)))
 
 pub layer-no-spec : {M : Type 1} → statement M
 layer-no-spec =
