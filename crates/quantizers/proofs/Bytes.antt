@@ -25,16 +25,15 @@ after-scale : (t : Target) (xs : List Float) (l : ℕ) → quantByte t xs l ≡ 
 unfolding byteAt
 after-scale t xs l = let e : 2 + l ≡ suc (suc l) = omega arith in rw e
 
--- what the writers of the quants put, as the block has it
-pub q40-byte : (xs : List Float) (inv : Float) → inv ≡ inverse (scaleOf Q40 xs) → (k : ℕ)
-    → byteOf (quantQ40 (mul binary32 (getD xs (2 * k) nan) inv)) + 16 * byteOf (quantQ40 (mul binary32 (getD xs (2 * k + 1) nan) inv)) ≡ byteAt Q40 xs (2 + k)
-unfolding quantByte quantOf scaledReading
-q40-byte xs inv e k = rw e (after-scale Q40 xs k)
+-- what the writers of the quants put by the inverse, and that it is what the block has
+abbrev pub written : Target → List Float → Float → ℕ → ℕ
+written Q40 xs inv k = byteOf (quantQ40 (mul binary32 (getD xs (2 * k) nan) inv)) + 16 * byteOf (quantQ40 (mul binary32 (getD xs (2 * k + 1) nan) inv))
+written Q80 xs inv k = byteOf (quantQ8 (mul binary32 (getD xs k nan) inv))
 
-pub q80-byte : (xs : List Float) (inv : Float) → inv ≡ inverse (scaleOf Q80 xs) → (k : ℕ)
-    → byteOf (quantQ8 (mul binary32 (getD xs k nan) inv)) ≡ byteAt Q80 xs (2 + k)
+written-is : (t : Target) (xs : List Float) (k : ℕ) → written t xs (inverse (scaleOf t xs)) k ≡ byteAt t xs (2 + k)
 unfolding quantByte quantOf scaledReading
-q80-byte xs inv e k = rw e (after-scale Q80 xs k)
+written-is Q40 xs k = after-scale Q40 xs k
+written-is Q80 xs k = after-scale Q80 xs k
 
 -- the scale's two bytes are stored, and then the part behind them is filled by g
 module _ (t : Target) (xs : List Float) (out : List ℕ) (half size k : ℕ) (L : length out ≡ size) (S : size ≡ 2 + k) (h : half ≡ storedScale (scaleOf t xs)) where
@@ -44,12 +43,23 @@ module _ (t : Target) (xs : List Float) (out : List ℕ) (half size k : ℕ) (L 
       let one = filling-more (byteAt t xs) out size out 0 (half % 256) L (filling-start (byteAt t xs) out size L) (omega arith) (ap (λ (n : ℕ). n % 256) h) in
       filling-more (byteAt t xs) out size (set out 0 (half % 256)) 1 (half / 256) L one (omega arith) (ap (λ (n : ℕ). n / 256) h)
 
-  pub block-filled : (g : ℕ → ℕ) (ys : List ℕ) → ys ≡ table g k → ((l : ℕ) → g l ≡ byteAt t xs (2 + l))
+  block-filled : (g : ℕ → ℕ) (ys : List ℕ) → ys ≡ table g k → ((l : ℕ) → g l ≡ byteAt t xs (2 + l))
       → (let o = set (set out 0 (half % 256)) 1 (half / 256) in
       (take 2 o ++ (ys ++ drop (size - 2) (drop 2 o)) ≡ table (byteAt t xs) size) × (length (take 2 o ++ (ys ++ drop (size - 2) (drop 2 o))) ≡ length out))
   block-filled g ys e q =
       let p = part-turn (byteAt t xs) g out (set (set out 0 (half % 256)) 1 (half / 256)) ys 2 k size size S refl (le-of-eq (sym L)) (scale-bytes .0) e (λ l u. q l) in
       (p .0 ∙ filled-all (byteAt t xs) out size (le-of-eq L), p .1)
+
+-- the same of the target u that the code was told of, by the scale d and the inverse that it computed
+pub block-left : (t u : Target) (xs : List Float) (out ys : List ℕ) (half size k : ℕ) (d inv : Float) → t ≡ u → length out ≡ blockSize t → blockSize u ≡ size → size ≡ 2 + k
+    → d ≡ scaleOf t xs → inv ≡ inverse d → half ≡ storedScale d → ys ≡ table (written u xs inv) k
+    → (let o = set (set out 0 (half % 256)) 1 (half / 256) in
+    (take 2 o ++ (ys ++ drop (size - 2) (drop 2 o)) ≡ table (byteAt t xs) (blockSize t)) × (length (take 2 o ++ (ys ++ drop (size - 2) (drop 2 o))) ≡ length out))
+block-left t u xs out ys half size k d inv e L Z S D I H Y =
+    let scale : d ≡ scaleOf u xs = D ∙ ap (λ (v : Target). scaleOf v xs) e in
+    let by : (l : ℕ) → written u xs inv l ≡ byteAt u xs (2 + l) = λ l. ap (λ (i : Float). written u xs i l) (I ∙ ap inverse scale) ∙ written-is u xs l in
+    let p = block-filled u xs out half size k (L ∙ ap blockSize e ∙ Z) S (H ∙ ap storedScale scale) (written u xs inv) ys Y by in
+    (p .0 ∙ ap (table (byteAt u xs)) (sym Z) ∙ ap (λ (v : Target). table (byteAt v xs) (blockSize v)) (sym e), p .1)
 
 -- block b's byte at place l is the output's at place b * size + l
 pub placed : (t : Target) (xs : List Float) (b l size : ℕ) → size ≡ blockSize t → l < size

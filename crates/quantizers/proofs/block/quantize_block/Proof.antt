@@ -1,19 +1,15 @@
 -- `block::quantize_block` meets its contract: the stored scale, and then the quants of its target. Assumes nothing.
-use mathlib.Core.Path.{_≡_, refl, sym, ap, _∙_}
-use Prim.Native.Nat.{_+_, _*_, _/_, _%_}
+use mathlib.Core.Path.{_≡_, refl, ap, _∙_}
+use Prim.Native.Nat.{_+_, _/_, _%_}
 use mathlib.Core.List.{_++_}
-use lib.ListN.{length, getD, set, take, drop, length-set}
-use lib.Ieee.{nan, binary32, mul}
-use Rattle.numbers.specs.Fields.{byteOf}
+use lib.ListN.{length, set, take, drop, length-set}
 use Rattle.memory.specs.Lists.{table}
 use Rattle.memory.proofs.Filled.{part-length}
-use Rattle.numbers.specs.Readings.{inverse, quantQ8, quantQ40}
 use native.Mathlib.Omega.{arith}
 use borrow.Author.Needs.{needs}
-use Rattle.quantizers.specs.Blocks.{blockSize, scaleOf, storedScale, byteAt}
-use Rattle.quantizers.specs.declared.target.Target.{Target}
+use Rattle.quantizers.specs.Blocks.{blockSize, byteAt}
 use Rattle.quantizers.specs.declared.target.Target.the-variants.{Q40, Q80}
-use Rattle.quantizers.proofs.Bytes.{block-sizes, block-filled, q40-byte, q80-byte}
+use Rattle.quantizers.proofs.Bytes.{block-sizes, block-left}
 use Rattle.quantizers.proofs.block.quantize_block.Statement.{statement}
 use Rattle.quantizers.proofs.block.quantize_block.Tie as tie
 
@@ -82,23 +78,19 @@ left-q40 : (c : tie.After-slice-known2)
     let half = c .before .before .before .before .before .before .stored-scale .result in
     let o = set (set (t .args .out .now) 0 (half % 256)) 1 (half / 256) in
     let left = take 2 o ++ (c .before .before .write-quants-q4-0 .last .1 .1 .0 ++ drop 16 (drop 2 o)) in
-    (left ≡ table (byteAt Q40 (t .args .x .now)) 18) × (length left ≡ length (t .args .out .now)))
+    (left ≡ table (byteAt (t .args .target) (t .args .x .now)) (blockSize (t .args .target))) × (length left ≡ length (t .args .out .now)))
 left-q40 c =
-    let t = c .before .before .before .before .before .before .before .before .before .before .before in
-    let e : t .args .target ≡ Q40 = c .before .before .before .before .enum-told .given .1 in
-    let xs = t .args .x .now in
-    let inv = c .before .before .before .before .before .before .before .inverse-of .result in
-    let scale : c .before .before .before .before .before .before .before .before .scale-of .result ≡ scaleOf Q40 xs = c .before .before .before .before .before .before .before .before .scale-of .ensures ∙ ap (λ (u : Target). scaleOf u xs) e in
-    let stored = c .before .before .before .before .before .before .stored-scale .ensures ∙ ap storedScale scale in
-    block-filled Q40 xs (t .args .out .now) (c .before .before .before .before .before .before .stored-scale .result) 18 16 (t .pre .1 ∙ ap blockSize e) refl stored
-    (λ l. byteOf (quantQ40 (mul binary32 (getD xs (2 * l) nan) inv)) + 16 * byteOf (quantQ40 (mul binary32 (getD xs (2 * l + 1) nan) inv)))
-    (c .before .before .write-quants-q4-0 .last .1 .1 .0) (c .before .before .write-quants-q4-0 .ensures) (q40-byte xs inv (c .before .before .before .before .before .before .before .inverse-of .ensures ∙ ap inverse scale))
+    let a = c .before .before .before .before .before .before .before .before .before .before .before .args in
+    let stored = c .before .before .before .before .before .before .stored-scale in
+    let scale = c .before .before .before .before .before .before .before .before .scale-of in
+    let inverted = c .before .before .before .before .before .before .before .inverse-of in
+    block-left (a .target) Q40 (a .x .now) (a .out .now) _ (stored .result) 18 16 (scale .result) (inverted .result) (c .before .before .before .before .enum-told .given .1) (c .before .before .before .before .before .before .before .before .before .before .before .pre .1) refl refl (scale .ensures) (inverted .ensures) (stored .ensures) (c .before .before .write-quants-q4-0 .ensures)
 
 same-length : tie.Need-same-length
 same-length c = left-q40 c .1
 
 returns : tie.Need-returns
-returns c = left-q40 c .0 ∙ ap (λ (u : Target). table (byteAt u (c .before .before .before .before .before .before .before .before .before .before .before .args .x .now)) (blockSize u)) (sym (c .before .before .before .before .enum-told .given .1))
+returns c = left-q40 c .0
 
 -- what stands in the output then, and how long it is
 left-q80 : (c : tie.After-slice-known3)
@@ -106,23 +98,19 @@ left-q80 : (c : tie.After-slice-known3)
     let half = c .before .before .before .before .before .before .stored-scale .result in
     let o = set (set (t .args .out .now) 0 (half % 256)) 1 (half / 256) in
     let left = take 2 o ++ (c .before .before .write-quants-q8-0 .last .1 .1 .0 ++ drop 32 (drop 2 o)) in
-    (left ≡ table (byteAt Q80 (t .args .x .now)) 34) × (length left ≡ length (t .args .out .now)))
+    (left ≡ table (byteAt (t .args .target) (t .args .x .now)) (blockSize (t .args .target))) × (length left ≡ length (t .args .out .now)))
 left-q80 c =
-    let t = c .before .before .before .before .before .before .before .before .before .before .before in
-    let e : t .args .target ≡ Q80 = c .before .before .before .before .enum-told2 .given .1 in
-    let xs = t .args .x .now in
-    let inv = c .before .before .before .before .before .before .before .inverse-of .result in
-    let scale : c .before .before .before .before .before .before .before .before .scale-of .result ≡ scaleOf Q80 xs = c .before .before .before .before .before .before .before .before .scale-of .ensures ∙ ap (λ (u : Target). scaleOf u xs) e in
-    let stored = c .before .before .before .before .before .before .stored-scale .ensures ∙ ap storedScale scale in
-    block-filled Q80 xs (t .args .out .now) (c .before .before .before .before .before .before .stored-scale .result) 34 32 (t .pre .1 ∙ ap blockSize e) refl stored
-    (λ l. byteOf (quantQ8 (mul binary32 (getD xs l nan) inv)))
-    (c .before .before .write-quants-q8-0 .last .1 .1 .0) (c .before .before .write-quants-q8-0 .ensures) (q80-byte xs inv (c .before .before .before .before .before .before .before .inverse-of .ensures ∙ ap inverse scale))
+    let a = c .before .before .before .before .before .before .before .before .before .before .before .args in
+    let stored = c .before .before .before .before .before .before .stored-scale in
+    let scale = c .before .before .before .before .before .before .before .before .scale-of in
+    let inverted = c .before .before .before .before .before .before .before .inverse-of in
+    block-left (a .target) Q80 (a .x .now) (a .out .now) _ (stored .result) 34 32 (scale .result) (inverted .result) (c .before .before .before .before .enum-told2 .given .1) (c .before .before .before .before .before .before .before .before .before .before .before .pre .1) refl refl (scale .ensures) (inverted .ensures) (stored .ensures) (c .before .before .write-quants-q8-0 .ensures)
 
 same-length-2 : tie.Need-same-length-2
 same-length-2 c = left-q80 c .1
 
 returns-2 : tie.Need-returns-2
-returns-2 c = left-q80 c .0 ∙ ap (λ (u : Target). table (byteAt u (c .before .before .before .before .before .before .before .before .before .before .before .args .x .now)) (blockSize u)) (sym (c .before .before .before .before .enum-told2 .given .1))
+returns-2 c = left-q80 c .0
 
 pub quantize-block-spec : {M : Type 1} → statement M
 quantize-block-spec =

@@ -1,33 +1,23 @@
 -- `block::write_quants_q4_0` meets its contract: the places are filled in turn. Assumes nothing.
 use mathlib.Core.Path.{sym, _∙_}
-use Prim.Native.Nat.{ℕ, _+_, _-_, _*_}
-use mathlib.Core.List.{List}
-use lib.ListN.{getD}
-use lib.Ieee.{Float, nan, binary32, mul}
-use Rattle.numbers.specs.Fields.{byteOf}
-use Rattle.numbers.specs.Readings.{quantQ40}
+use Prim.Native.Nat.{_-_}
 use Rattle.numbers.proofs.Held.{q40-nibble}
 use Rattle.memory.proofs.Filled.{Filling, filling-start, filling-more, filling-done}
 use native.Mathlib.Omega.{arith}
 use borrow.Author.Needs.{needs}
+use Rattle.quantizers.specs.declared.target.Target.the-variants.{Q40}
+use Rattle.quantizers.proofs.Bytes.{written}
 use Rattle.quantizers.proofs.block.write_quants_q4_0.Statement.{statement}
 use Rattle.quantizers.proofs.block.write_quants_q4_0.Tie as tie
 
--- a reading times the inverse, and byte k of two of them
-abbrev scaled : List Float → Float → ℕ → Float
-scaled x inverse i = mul binary32 (getD x i nan) inverse
-
-abbrev at : List Float → Float → ℕ → ℕ
-at x inverse k = byteOf (quantQ40 (scaled x inverse (2 * k))) + 16 * byteOf (quantQ40 (scaled x inverse (2 * k + 1)))
-
 abbrev Inv-loop : tie.InvT-loop
-Inv-loop x inverse out₀ k₀ out k = Filling (at x inverse) out₀ 16 out k
+Inv-loop x inverse out₀ k₀ out k = Filling (written Q40 x inverse) out₀ 16 out k
 
 abbrev μ-loop : tie.MeasureT-loop
 μ-loop x inverse out₀ k₀ out k = 16 - k
 
 loop-holds : tie.Need-loop-holds Inv-loop μ-loop
-loop-holds c = filling-start (at (c .before .before .args .x .now) (c .before .before .args .inverse)) (c .before .before .args .out .now) 16 (c .before .before .pre .1)
+loop-holds c = filling-start (written Q40 (c .before .before .args .x .now) (c .before .before .args .inverse)) (c .before .before .args .out .now) 16 (c .before .before .pre .1)
 
 mul-round-q4-0 : tie.Need-mul-round-q4-0 Inv-loop μ-loop
 mul-round-q4-0 c = omega arith
@@ -75,7 +65,7 @@ loop-again : tie.Need-loop-again Inv-loop μ-loop
 loop-again c =
     let l = c .before .before .before .before .before .loop in
     let t = c .before .before .before .before .before .before .before .before in
-    filling-more (at (t .args .x .now) (t .args .inverse)) (t .args .out .now) 16 (l .out) (l .k) _ (t .pre .1) (l .inv) (c .before .before .before .before .loop-test .taken)
+    filling-more (written Q40 (t .args .x .now) (t .args .inverse)) (t .args .out .now) 16 (l .out) (l .k) _ (t .pre .1) (l .inv) (c .before .before .before .before .loop-test .taken)
     (rw (← c .round-q4-02 .ensures, ← c .before .before .round-q4-0 .ensures))
 
 same-length : tie.Need-same-length Inv-loop μ-loop
@@ -85,7 +75,7 @@ returns : tie.Need-returns Inv-loop μ-loop
 returns c =
     let l = c .before .loop in
     let t = c .before .before .before .before in
-    filling-done (at (t .args .x .now) (t .args .inverse)) (t .args .out .now) 16 (l .out) (l .k) (t .pre .1) (l .inv) (c .loop-test .left)
+    filling-done (written Q40 (t .args .x .now) (t .args .inverse)) (t .args .out .now) 16 (l .out) (l .k) (t .pre .1) (l .inv) (c .loop-test .left)
 
 pub write-quants-q4-0-spec : {M : Type 1} → statement M
 write-quants-q4-0-spec =

@@ -1,30 +1,25 @@
 -- `block::write_quants_q8_0` meets its contract: the places are filled in turn. Assumes nothing.
 use mathlib.Core.Path.{sym, ap, _∙_}
-use Prim.Native.Nat.{ℕ, _-_}
-use mathlib.Core.List.{List}
-use lib.ListN.{getD}
-use lib.Ieee.{Float, nan, binary32, mul}
+use Prim.Native.Nat.{_-_}
 use mir.Syntax.{w8}
 use Rattle.numbers.specs.Fields.{byteOf}
-use Rattle.numbers.specs.Readings.{quantQ8}
 use Rattle.numbers.proofs.Signed.{read-is}
 use Rattle.memory.proofs.Filled.{Filling, filling-start, filling-more, filling-done}
 use native.Mathlib.Omega.{arith}
 use borrow.Author.Needs.{needs}
+use Rattle.quantizers.specs.declared.target.Target.the-variants.{Q80}
+use Rattle.quantizers.proofs.Bytes.{written}
 use Rattle.quantizers.proofs.block.write_quants_q8_0.Statement.{statement}
 use Rattle.quantizers.proofs.block.write_quants_q8_0.Tie as tie
 
-abbrev at : List Float → Float → ℕ → ℕ
-at x inverse k = byteOf (quantQ8 (mul binary32 (getD x k nan) inverse))
-
 abbrev Inv-loop : tie.InvT-loop
-Inv-loop x inverse out₀ k₀ out k = Filling (at x inverse) out₀ 32 out k
+Inv-loop x inverse out₀ k₀ out k = Filling (written Q80 x inverse) out₀ 32 out k
 
 abbrev μ-loop : tie.MeasureT-loop
 μ-loop x inverse out₀ k₀ out k = 32 - k
 
 loop-holds : tie.Need-loop-holds Inv-loop μ-loop
-loop-holds c = filling-start (at (c .before .before .args .x .now) (c .before .before .args .inverse)) (c .before .before .args .out .now) 32 (c .before .before .pre .1)
+loop-holds c = filling-start (written Q80 (c .before .before .args .x .now) (c .before .before .args .inverse)) (c .before .before .args .out .now) 32 (c .before .before .pre .1)
 
 mul-round-q8 : tie.Need-mul-round-q8 Inv-loop μ-loop
 mul-round-q8 c = omega arith
@@ -51,7 +46,7 @@ loop-again : tie.Need-loop-again Inv-loop μ-loop
 loop-again c =
     let l = c .before .before .before .before .loop in
     let t = c .before .before .before .before .before .before .before in
-    filling-more (at (t .args .x .now) (t .args .inverse)) (t .args .out .now) 32 (l .out) (l .k) _ (t .pre .1) (l .inv) (c .before .before .before .loop-test .taken)
+    filling-more (written Q80 (t .args .x .now) (t .args .inverse)) (t .args .out .now) 32 (l .out) (l .k) _ (t .pre .1) (l .inv) (c .before .before .before .loop-test .taken)
     (c .unsigned-byte .ensures ∙ ap byteOf (read-is w8 _ (c .before .round-q8 .ok) ∙ c .before .round-q8 .ensures))
 
 same-length : tie.Need-same-length Inv-loop μ-loop
@@ -61,7 +56,7 @@ returns : tie.Need-returns Inv-loop μ-loop
 returns c =
     let l = c .before .loop in
     let t = c .before .before .before .before in
-    filling-done (at (t .args .x .now) (t .args .inverse)) (t .args .out .now) 32 (l .out) (l .k) (t .pre .1) (l .inv) (c .loop-test .left)
+    filling-done (written Q80 (t .args .x .now) (t .args .inverse)) (t .args .out .now) 32 (l .out) (l .k) (t .pre .1) (l .inv) (c .loop-test .left)
 
 pub write-quants-q8-0-spec : {M : Type 1} → statement M
 write-quants-q8-0-spec =
