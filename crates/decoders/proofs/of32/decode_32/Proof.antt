@@ -1,5 +1,5 @@
 -- `of32::decode_32` meets its contract, over the layout: in turn e the run of 16 from 16 e on is filled. Assumes nothing.
-use mathlib.Core.Path.{refl, _≡_, ap, _∙_}
+use mathlib.Core.Path.{_≡_, refl, ap, _∙_}
 use Prim.Native.Nat.{ℕ, _+_, _-_, _*_}
 use mathlib.Core.List.{List}
 use lib.IntN.{ℤ, pos}
