@@ -1,25 +1,21 @@
 -- What the rows come to: the one-go dot of demand 3 is what the row dots of other crates say of the same row, and a layer with no readings has no pieces. Assumes nothing.
-use Prim.Native.Nat.{ℕ, _*_, _/_, _%_, _≤_, _<_}
+use Prim.Native.Nat.{ℕ, _*_, _/_, _%_, _<_}
 use mathlib.Core.Path.{_≡_, refl, sym, ap, _∙_}
 use mathlib.Core.List.{List}
 use native.Mathlib.Omega.{arith}
 use native.Mathlib.Nat.{mul-zero, le-refl, mul-mod-left}
-use native.Mathlib.Decide.{ℕ-discrete}
-use borrow.Author.Tests.{le-ltb, ne-eqb}
 use lib.ListN.{length, drop, length-drop}
 use lib.Seq.{length-take-le}
 use lib.Ieee.{Float}
 use Rattle.refusals.specs.Said.{value}
-use Rattle.refusals.specs.Sizes.{mostIn}
 use Rattle.memory.specs.Lists.{table}
 use Rattle.memory.proofs.Filled.{length-table}
 use Rattle.numbers.specs.Steps.{nought}
 use Rattle.layouts.specs.Formats.{bytesK, formatOf}
-use Rattle.sums.specs.Tree.{tree, met}
-use Rattle.sums.specs.Lanes.{products}
-use Rattle.sums.specs.Rows.{rowSum}
+use Rattle.sums.specs.Tree.{tree}
 use Rattle.sums.specs.Says.{dotSays}
 use Rattle.sums.proofs.TreeLaws.{tree-none}
+use Rattle.sums.proofs.RowLaws.{dot-answers}
 use Rattle.fused.specs.Says.{fusedSays}
 use Rattle.fused.proofs.Decoded.{dot-of-weights}
 use Rattle.stepped_shape.specs.declared.shape.Layer.{Layer}
@@ -49,18 +45,10 @@ closes-at-nought l slots row e = met-nothing _ (chunks l) (no-chunks l e)
 
 -- ---- a row of a layer that is worked: what `canonical_dot_pub` says of the row decoded, and the fused row dots of the row's bytes
 
-dot-answered : (x y : List Float) (n : ℕ) → n ≤ mostIn → n ≤ length x → n ≤ length y → dotSays x y n ≡ value (rowSum (products x y) n)
-unfolding dotSays rowSum table tree met
-dot-answered x y n m u v = by (ℕ-discrete n 0)
-  where
-    by : Dec (n ≡ 0) → dotSays x y n ≡ value (rowSum (products x y) n)
-    by (yes z) = rw z refl
-    by (no z) = simp (le-ltb _ _ m, ne-eqb _ _ z, le-ltb _ _ v, le-ltb _ _ u)
-
 module _ (l : Layer) (w : List ℕ) (x : List Float) (row : ℕ) (ready : LayerReady l (length w) (length x)) (inside : row < l .«out_feat») where
   pub dot-in-one-go : dotSays x (decodedRow l w row) (l .«in_feat») ≡ value (inOneGo l w x row)
   unfolding inOneGo decodedRow
-  dot-in-one-go = dot-answered x (decodedRow l w row) (l .«in_feat») (shaped l (ready .shape) .inputs) (ready .readings-enough) (rw length-table (le-refl _))
+  dot-in-one-go = dot-answers x (decodedRow l w row) (l .«in_feat») (shaped l (ready .shape) .inputs) (ready .readings-enough) (rw length-table (le-refl _))
 
   row-length : length (rowOf l w row) ≡ layerRowBytes l
   row-length = length-take-le (layerRowBytes l) (drop (row * layerRowBytes l) w) (rw length-drop (omega (arith, bytes-within l row (length w) inside (ready .weights-enough))))

@@ -7,10 +7,9 @@ use native.Mathlib.Omega.{arith}
 use native.Mathlib.Nat.{le-of-eq, mul-le-mul}
 use borrow.Author.Tests.{ltb-false, leb-false, eqb-true, not-false}
 use lib.Dec.{lit<}
-use lib.ListN.{length, getD, take, drop}
+use lib.ListN.{length, getD}
 use Rattle.refusals.specs.Sizes.{mostIn, mostOut}
 use Rattle.refusals.proofs.Laws.{given-none, else-none}
-use Rattle.memory.specs.Lists.{part}
 use Rattle.memory.proofs.Parts.{within}
 use Rattle.layouts.specs.Formats.{knownFormat, formatOf}
 use Rattle.layouts.specs.Weights.{valuesOf}
@@ -84,12 +83,6 @@ place-within l row c h = omega (arith, row-within l row (h .row-in), h .chunk-in
 pub bytes-within : (l : Layer) (row weights : ℕ) → row < l .«out_feat» → weightNeed l ≤ weights → row * layerRowBytes l + layerRowBytes l ≤ weights
 unfolding weightNeed
 bytes-within l row weights h r = within row (layerRowBytes l) (l .«out_feat») weights h r
-
--- a row of n places, where a row has m, as the code gives its start and end
-pub row-part : {A : Type 0} (xs : List A) (row n m : ℕ) → n ≡ m → take (row * n + n - row * n) (drop (row * n) xs) ≡ part xs (row * m) m
-row-part xs row n m e =
-    let g : row * m + m - row * m ≡ m = omega arith in
-    rw (e, g)
 
 -- ---- the calls' checks
 

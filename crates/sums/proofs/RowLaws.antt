@@ -1,18 +1,21 @@
--- Laws of chunks and rows, over any terms p. Assumes nothing.
-use mathlib.Core.Path.{_≡_, ap, _∙_}
+-- Laws of chunks and rows, over any terms p, and a dot that does not refuse. Assumes nothing.
+use mathlib.Core.Path.{_≡_, refl, ap, _∙_}
 use mathlib.Core.List.{List}
-use Prim.Native.Nat.{ℕ, _+_, _-_, _*_, _≤_, _<_}
+use Prim.Native.Nat.{ℕ, zero, suc, _+_, _-_, _*_, _≤_, _<_}
 use native.Mathlib.Nat.{min-le-right}
 use native.Mathlib.Omega.{arith}
+use borrow.Author.Tests.{le-ltb, ne-eqb}
 use lib.ListN.{length, take, drop, set}
 use lib.Seq.{take-at}
 use lib.Ieee.{Float}
+use Rattle.refusals.specs.Said.{value}
 use Rattle.refusals.specs.Sizes.{mostIn}
 use Rattle.memory.specs.Lists.{table, filled}
 use Rattle.memory.proofs.Filled.{length-table, table-ext, Filling, filling-start, filling-more}
-use Rattle.sums.specs.Tree.{tree, combined}
-use Rattle.sums.specs.Lanes.{lanes, chunkSum}
+use Rattle.sums.specs.Tree.{tree, met, combined}
+use Rattle.sums.specs.Lanes.{products, lanes, chunkSum}
 use Rattle.sums.specs.Rows.{chunksIn, chunkLength, chunkAt, rowSum}
+use Rattle.sums.specs.Says.{dotSays}
 use Rattle.sums.proofs.LaneLaws.{lanes-cong}
 
 -- a chunk sum depends on the terms below n alone
@@ -52,3 +55,13 @@ chunking-met p n old sums left c k r b e g w =
     ∙ ap (λ (l : List Float). tree (take k l)) (w .1 .0 ∙ ap (filled (chunkAt p n) old) b)
     ∙ ap tree (take-at (table (chunkAt p n) k) (drop k old) k (length-table (chunkAt p n) k))
     ∙ ap (λ (m : ℕ). tree (table (chunkAt p n) m)) e
+
+-- ---- the dot of as many readings as weights never refuses
+
+not-nought : (m : ℕ) → suc m ≡ 0 → ⊥
+not-nought m e = omega arith
+
+pub dot-answers : (x w : List Float) (n : ℕ) → n ≤ mostIn → n ≤ length x → n ≤ length w → dotSays x w n ≡ value (rowSum (products x w) n)
+unfolding dotSays rowSum tree met table
+dot-answers x w zero most enough e = refl
+dot-answers x w (suc m) most enough e = simp (le-ltb _ _ most, ne-eqb _ _ (not-nought m), le-ltb _ _ e, le-ltb _ _ enough)

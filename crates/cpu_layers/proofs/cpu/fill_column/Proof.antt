@@ -14,9 +14,9 @@ use Rattle.memory.proofs.Filled.{part-length}
 use Rattle.memory.proofs.Parts.{within}
 use Rattle.sums.specs.Lanes.{products}
 use Rattle.sums.specs.Rows.{rowSum}
+use Rattle.sums.proofs.RowLaws.{dot-answers}
 use Rattle.cpu_layers.specs.Columns.{column}
 use Rattle.cpu_layers.proofs.Columns.{column-none, column-more}
-use Rattle.cpu_layers.proofs.RowDots.{dot-answers}
 use Rattle.cpu_layers.proofs.cpu.fill_column.Statement.{statement}
 use Rattle.cpu_layers.proofs.cpu.fill_column.Tie as tie
 

@@ -7,11 +7,12 @@ use Prim.Native.Nat.{ℕ, _≤_, _+_, _*_}
 use lib.ListN.{length}
 use denote.Ref.{now}
 use Rattle.memory.proofs.Filled.{part-length}
+use Rattle.memory.proofs.Parts.{lent-part}
 use Rattle.layouts.specs.declared.format.FormatK.{FormatK}
 use Rattle.sums.specs.Rows.{chunkAt}
 use Rattle.fused.specs.Terms.{terms}
 use Rattle.stepped_shape.specs.Layer.{chunks, layerRowBytes, rowOf}
-use Rattle.stepped_shape.proofs.Shapes.{shaped, bytes-within, row-enough, row-part}
+use Rattle.stepped_shape.proofs.Shapes.{shaped, bytes-within, row-enough}
 use Rattle.stepped.specs.Says.{sumAt}
 use Rattle.stepped.proofs.pieces.chunk_sum.Statement.{statement}
 use Rattle.stepped.proofs.pieces.chunk_sum.Tie as tie
@@ -67,7 +68,7 @@ returns c =
     let b = f .before in
     let a = start b .args in
     c .chunk-dot .ensures
-    ∙ ap (λ (v : List ℕ). chunkAt (terms (f .format-of .result) (now (a .x)) v) (a .l .«in_feat») (a .chunk)) (row-part (now (a .w)) (a .row) (b .row-bytes .result) (layerRowBytes (a .l)) (b .row-bytes .ensures))
+    ∙ ap (λ (v : List ℕ). chunkAt (terms (f .format-of .result) (now (a .x)) v) (a .l .«in_feat») (a .chunk)) (lent-part (now (a .w)) (a .row) (b .row-bytes .result) (layerRowBytes (a .l)) (b .row-bytes .ensures))
     ∙ ap (λ (k : FormatK). chunkAt (terms k (now (a .x)) (rowOf (a .l) (now (a .w)) (a .row))) (a .l .«in_feat») (a .chunk)) (f .format-of .ensures)
 
 pub chunk-sum-spec : {M : Type 1} → statement M

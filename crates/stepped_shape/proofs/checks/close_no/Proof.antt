@@ -7,10 +7,11 @@ use mathlib.Core.Bool.{not}
 use Prim.Native.Nat.{_≤_, _+_, _*_}
 use lib.ListN.{length}
 use denote.Ref.{now}
+use Rattle.memory.proofs.Parts.{lent-part}
 use Rattle.refusals.proofs.Laws.{given-yes, given-no, else-first, else-later}
 use Rattle.stepped_shape.specs.Layer.{chunks, pieces, openCount, openInRow}
 use Rattle.stepped_shape.specs.Refusals.{openNo, closeNo}
-use Rattle.stepped_shape.proofs.Shapes.{openable, row-within, row-part, few-pieces}
+use Rattle.stepped_shape.proofs.Shapes.{openable, row-within, few-pieces}
 use Rattle.stepped_shape.proofs.checks.close_no.Statement.{statement}
 use Rattle.stepped_shape.proofs.checks.close_no.Tie as tie
 
@@ -71,7 +72,7 @@ unfolding openInRow
 counted c =
     let k = c .before .before in
     let a = start k .args in
-    c .count-open .ensures ∙ ap openCount (row-part (now (a .marks)) (a .row) (k .chunks-of .result) (chunks (a .l)) (k .chunks-of .ensures))
+    c .count-open .ensures ∙ ap openCount (lent-part (now (a .marks)) (a .row) (k .chunks-of .result) (chunks (a .l)) (k .chunks-of .ensures))
 
 returns-4 : tie.Need-returns-4
 unfolding closeNo
