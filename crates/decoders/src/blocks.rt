@@ -17,7 +17,7 @@ ghost use Rattle.layouts.specs.Weights.{valueIn, weightAt, valuesOf};
 ghost use Rattle.decoders.specs.Says.{dequantizeNo, dequantizeSays};
 
 // One block's values.
-pub fn decode_block(format: Format, block: &[u8], out: &mut [f32])
+fn decode_block(format: Format, block: &[u8], out: &mut [f32])
     requires { ⌜ (length (now block) ≡ blockBytes format) × (length (now out) ≡ blockValues format) ⌝ }
     ensures { λ _. ⌜ now (out .exit) ≡ table (valueIn format (now (block .entry))) (blockValues format) ⌝ }
 {

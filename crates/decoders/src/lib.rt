@@ -3,7 +3,6 @@ mod blocks;
 mod k;
 mod of32;
 
-pub use blocks::decode_block;
 pub use blocks::decode_blocks;
 pub use blocks::dequantize_q4_0;
 pub use blocks::dequantize_q4_k;
