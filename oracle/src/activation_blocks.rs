@@ -6,7 +6,7 @@ use crate::row_dots::RowDot;
 use crate::sample::{count, floats, Records};
 use jambharrow::{Q8Block, Refusal};
 use oracle::inputs::{
-    self, any_float, any_scale, row, set_scale, trained_scale, Draw, Layout, SCALES,
+    self, any_bits, any_float, any_scale, row, set_scale, trained_scale, Draw, Layout, SCALES,
 };
 use oracle::ops::quant;
 use oracle::random::Random;
@@ -65,7 +65,7 @@ fn compare_quantize_block_q8(comparison: &mut Comparison) {
     });
     comparison.cases("blocks of any bits", 1 << 16, |number| {
         let mut random = Random::new(number);
-        let block: Vec<f32> = (0..VALUES).map(|_| f32::from_bits(random.u32())).collect();
+        let block: Vec<f32> = (0..VALUES).map(|_| any_bits(&mut random)).collect();
         quantize_case(&block)
     });
     comparison.cases("each count of readings", 64 * 260, |number| {

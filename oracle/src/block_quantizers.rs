@@ -4,7 +4,7 @@ use crate::compare::{Compared, Comparison, Difference};
 use crate::held;
 use crate::sample::{count, floats, Records, STOOD_BYTE};
 use jambharrow::{Refusal, MOST_FLOATS};
-use oracle::inputs::{reading, row};
+use oracle::inputs::{any_bits, reading, row};
 use oracle::ops::quant;
 use oracle::random::Random;
 
@@ -51,7 +51,7 @@ impl Quantizer {
         });
         comparison.cases("blocks of any bits", 1 << 17, |number| {
             let mut random = Random::new(number);
-            let block: Vec<f32> = (0..VALUES).map(|_| f32::from_bits(random.u32())).collect();
+            let block: Vec<f32> = (0..VALUES).map(|_| any_bits(&mut random)).collect();
             self.case(&block, self.bytes)
         });
         comparison.cases(

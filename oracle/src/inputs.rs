@@ -101,7 +101,7 @@ const SOME: [Draw<f32>; 6] = [
     |random| float(random, 0x7F00_0000, 0x7F7F_FFFF),
     |random| float(random, 0x0000_0001, 0x007F_FFFF),
     |random| float(random, 0x0000_0000, 0x0000_0000),
-    |random| f32::from_bits(random.u32()),
+    any_bits,
 ];
 
 /// A float of about the magnitude of a reading, 2^-10 up to 2^6, of either sign.
@@ -118,7 +118,23 @@ pub fn any_float(random: &mut Random) -> f32 {
 /// A float of either sign, whose bits below the sign are from `low` to `high`.
 fn float(random: &mut Random, low: u32, high: u32) -> f32 {
     let sign = random.u32() & 0x8000_0000;
-    f32::from_bits(sign | (low + random.below((high - low) as usize + 1) as u32))
+    of_bits(sign | (low + random.below((high - low) as usize + 1) as u32))
+}
+
+/// A float of any bits.
+pub fn any_bits(random: &mut Random) -> f32 {
+    of_bits(random.u32())
+}
+
+/// The float of some bits. On another processor than x86-64, for which the library is not made, a
+/// NaN is made a quiet one: there the compiler's code for a comparison lets a signalling NaN pass for
+/// a number, on either side (docs/DIFFERENCES.md).
+fn of_bits(bits: u32) -> f32 {
+    let float = f32::from_bits(bits);
+    if cfg!(target_arch = "x86_64") || !float.is_nan() {
+        return float;
+    }
+    f32::from_bits(bits | 0x0040_0000)
 }
 
 /// A row of floats: most of one kind, and in every other row a few of another.
