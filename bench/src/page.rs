@@ -143,8 +143,8 @@ fn lines(head: &str, rows: impl Iterator<Item = String>) -> String {
     format!("{head}\n{}\n", rows.join("\n"))
 }
 
-/// The time of a value at a call's largest input over that at its device size, from the least to the
-/// most over all calls that have both.
+/// The time of a value at a call's largest input over that at the logger's size, from the least to
+/// the most over all calls that have both.
 fn growth(rows: &[Pair]) -> String {
     let mut ratios: Vec<(f64, &str)> = Vec::new();
     for call in names(rows) {
@@ -163,7 +163,7 @@ fn growth(rows: &[Pair]) -> String {
         return String::new();
     };
     format!(
-        "The time grows with the number of values and no faster: at the largest input a value takes {:.2} (`{}`) to {:.2} (`{}`) of the time that it takes at the size of the logger. On small inputs the call itself and its checks are seen.\n",
+        "At its largest input a call takes {:.2} (`{}`) to {:.2} (`{}`) of the time a value that it takes at the size of the logger: 1.00 is time in proportion to the number of values. On small inputs the call itself and its checks are seen.\n",
         least.0, least.1, most.0, most.1
     )
 }
