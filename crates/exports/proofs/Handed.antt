@@ -5,10 +5,10 @@ use Rattle.refusals.specs.Said.{Said}
 use Rattle.refusals.proofs.Laws.{carried-done, carried-refused}
 use Rattle.activations.specs.declared.block.Q8Block.{Q8Block}
 use Rattle.activations.specs.declared.block.Quantized.{Quantized}
-use Rattle.exports.specs.Answers.{numberOf, numbered}
+use Rattle.handed.specs.Answers.{numberOf, numbered}
 use Rattle.exports.specs.Blocks.{blockLaidOut}
 use Rattle.stepped.specs.Says.{RunSaid}
-use Rattle.exports.specs.Stepped.{countsLaidOut, runLaidOut}
+use Rattle.handed.specs.Counts.{countsLaidOut, runLaidOut}
 
 pub handed : {A : Type 0} (r : ℕ) (said : Said) (left : A) (says : Said × A) → r ≡ numberOf said → (said, left) ≡ says → (r, left) ≡ numbered says
 unfolding numbered

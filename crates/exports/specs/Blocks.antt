@@ -6,7 +6,7 @@ use lib.Ieee.{Float}
 use Rattle.refusals.specs.Refusals.{carriedOut}
 use Rattle.activations.specs.declared.block.Q8Block.{Q8Block}
 use Rattle.activations.specs.declared.block.Quantized.{Quantized}
-use Rattle.exports.specs.Answers.{numbered}
+use Rattle.handed.specs.Answers.{numbered}
 
 -- the block that stands in the three places
 abbrev pub blockIn : Float → List ℤ → List ℤ → Q8Block

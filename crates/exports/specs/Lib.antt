@@ -1,4 +1,2 @@
--- How C is handed what a call says.
-pub mod Answers
+-- How C lends an activation block.
 pub mod Blocks
-pub mod Stepped

@@ -1,11 +1,11 @@
 // Activation blocks, and the integer dots over them.
-use crate::answers::lay_out;
 use activations::Q8Block;
+use handed::lay_out;
 ghost use mathlib.Core.Path.{_≡_};
 ghost use Rattle.activations.specs.Blocks.{quantized};
 ghost use Rattle.activations.specs.Dots.{dotQ4kSays, dotQ6kSays};
 ghost use Rattle.activations.specs.Rows.{integerSays};
-ghost use Rattle.exports.specs.Answers.{laidOut};
+ghost use Rattle.handed.specs.Answers.{laidOut};
 ghost use Rattle.exports.specs.Blocks.{blockIn, blockLaidOut};
 
 // The block of three places that C lends.

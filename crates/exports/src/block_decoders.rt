@@ -1,11 +1,11 @@
 // The block decoders.
-use crate::answers::number_of;
+use handed::number_of;
 use layouts::Format;
 use layouts::Format32;
 use layouts::FormatK;
 ghost use mathlib.Core.Path.{_≡_};
 ghost use Rattle.decoders.specs.Says.{dequantizeSays};
-ghost use Rattle.exports.specs.Answers.{numbered};
+ghost use Rattle.handed.specs.Answers.{numbered};
 
 #[no_mangle]
 pub extern "C" fn jambharrow_dequantize_q4_0(bytes: &[u8], out: &mut [f32]) -> u32

@@ -1,9 +1,9 @@
 // The block quantizers.
-use crate::answers::number_of;
+use handed::number_of;
 use quantizers::Target;
 ghost use mathlib.Core.Path.{_≡_};
 ghost use Rattle.quantizers.specs.Says.{quantizeSays};
-ghost use Rattle.exports.specs.Answers.{numbered};
+ghost use Rattle.handed.specs.Answers.{numbered};
 
 #[no_mangle]
 pub extern "C" fn jambharrow_quantize_q4_0(x: &[f32], out: &mut [u8]) -> u32

@@ -1,9 +1,9 @@
 // Fixed-order sums.
-use crate::answers::lay_out;
+use handed::lay_out;
 ghost use mathlib.Core.Path.{_≡_};
 ghost use Rattle.sums.specs.Tree.{combined};
 ghost use Rattle.sums.specs.Says.{chunkSays, dotSays, sumSays};
-ghost use Rattle.exports.specs.Answers.{laidOut};
+ghost use Rattle.handed.specs.Answers.{laidOut};
 
 #[no_mangle]
 pub extern "C" fn jambharrow_canonical_chunk(x: &[f32], w: &[f32], value: &mut f32) -> u32

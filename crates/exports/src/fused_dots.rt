@@ -1,9 +1,9 @@
 // The fused dots.
-use crate::answers::lay_out;
+use handed::lay_out;
 use layouts::FormatK;
 ghost use mathlib.Core.Path.{_≡_};
 ghost use Rattle.fused.specs.Says.{fusedSays};
-ghost use Rattle.exports.specs.Answers.{laidOut};
+ghost use Rattle.handed.specs.Answers.{laidOut};
 
 #[no_mangle]
 pub extern "C" fn jambharrow_canonical_dot_q4k_fused(

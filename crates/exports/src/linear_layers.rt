@@ -1,5 +1,5 @@
 // The layers.
-use crate::answers::number_of;
+use handed::number_of;
 use held_rows::Meeting;
 use layouts::Format;
 use layouts::Format32;
@@ -9,7 +9,7 @@ ghost use Rattle.shapes.specs.Shapes.{shape};
 ghost use Rattle.fused_layers.specs.Says.{fusedLayerSays};
 ghost use Rattle.cpu_layers.specs.Says.{cpuSays};
 ghost use Rattle.integer_layers.specs.Says.{integerLayerSays};
-ghost use Rattle.exports.specs.Answers.{numbered};
+ghost use Rattle.handed.specs.Answers.{numbered};
 
 #[no_mangle]
 pub extern "C" fn jambharrow_linear_q4_k_fused(

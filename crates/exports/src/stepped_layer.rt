@@ -1,29 +1,12 @@
 // The stepped layer.
-use crate::answers::number_of;
-use stepped::Progress;
+use handed::lay_out_counts;
+use handed::number_of;
 use stepped_shape::Layer;
 ghost use mathlib.Core.Path.{_≡_};
 ghost use Rattle.stepped_shape.specs.Layer.{layerOf};
-ghost use Rattle.stepped.specs.Says.{progressSays, openSays, pieceSays, runSays, closeSays};
-ghost use Rattle.exports.specs.Answers.{numbered};
-ghost use Rattle.exports.specs.Stepped.{countsLaidOut, runLaidOut};
-
-// The number of run, whose two counts are stored where it has them.
-fn lay_out_counts(progress: Progress, done: &mut usize, left: &mut usize) -> u32
-    ensures { λ r. ⌜ (r, (now (done .exit), now (left .exit))) ≡ countsLaidOut (progressSays progress) (now (done .entry), now (left .entry)) ⌝ }
-{
-    match progress {
-        Progress::Ran {
-            done: worked,
-            left: open,
-        } => {
-            *done = worked;
-            *left = open;
-            0
-        }
-        Progress::Refused(number) => number,
-    }
-}
+ghost use Rattle.stepped.specs.Says.{openSays, pieceSays, runSays, closeSays};
+ghost use Rattle.handed.specs.Answers.{numbered};
+ghost use Rattle.handed.specs.Counts.{runLaidOut};
 
 #[no_mangle]
 pub extern "C" fn jambharrow_open(

@@ -3,10 +3,10 @@ use refusals::Answer;
 use refusals::Outcome;
 ghost use mathlib.Core.Path.{_≡_};
 ghost use Rattle.refusals.specs.Said.{saidBy, outcomeSays};
-ghost use Rattle.exports.specs.Answers.{numberOf, laidOut};
+ghost use Rattle.handed.specs.Answers.{numberOf, laidOut};
 
 // The number of a call that fills lent memory: 0 where it is done, and otherwise the number that says no.
-pub(crate) fn number_of(outcome: Outcome) -> u32
+pub fn number_of(outcome: Outcome) -> u32
     ensures { λ r. ⌜ r ≡ numberOf (outcomeSays outcome) ⌝ }
 {
     match outcome {
@@ -16,7 +16,7 @@ pub(crate) fn number_of(outcome: Outcome) -> u32
 }
 
 // The number of a call that works out a value, which is stored where there is one.
-pub(crate) fn lay_out(answer: Answer, value: &mut f32) -> u32
+pub fn lay_out(answer: Answer, value: &mut f32) -> u32
     ensures { λ r. ⌜ (r, now (value .exit)) ≡ laidOut (saidBy answer) (now (value .entry)) ⌝ }
 {
     match answer {

@@ -1,8 +1,8 @@
 -- `answers::number_of` meets its contract: a case for each answer. Assumes nothing.
 use borrow.Author.Needs.{needs}
-use Rattle.exports.specs.Answers.{numberOf}
-use Rattle.exports.proofs.answers.number_of.Statement.{statement}
-use Rattle.exports.proofs.answers.number_of.Tie as tie
+use Rattle.handed.specs.Answers.{numberOf}
+use Rattle.handed.proofs.answers.number_of.Statement.{statement}
+use Rattle.handed.proofs.answers.number_of.Tie as tie
 
 enum-told : tie.Need-enum-told
 enum-told c = search needs

@@ -1,8 +1,8 @@
 -- `answers::lay_out` meets its contract: a case for each answer. Assumes nothing.
 use borrow.Author.Needs.{needs}
-use Rattle.exports.specs.Answers.{laidOut}
-use Rattle.exports.proofs.answers.lay_out.Statement.{statement}
-use Rattle.exports.proofs.answers.lay_out.Tie as tie
+use Rattle.handed.specs.Answers.{laidOut}
+use Rattle.handed.proofs.answers.lay_out.Statement.{statement}
+use Rattle.handed.proofs.answers.lay_out.Tie as tie
 
 enum-known-answer : tie.Need-enum-known-answer
 enum-known-answer c = search needs

@@ -1,8 +1,8 @@
--- `stepped_layer::lay_out_counts` meets its contract: a case for each answer. Assumes nothing.
+-- `counts::lay_out_counts` meets its contract: a case for each answer. Assumes nothing.
 use borrow.Author.Needs.{needs}
-use Rattle.exports.specs.Stepped.{countsLaidOut}
-use Rattle.exports.proofs.stepped_layer.lay_out_counts.Statement.{statement}
-use Rattle.exports.proofs.stepped_layer.lay_out_counts.Tie as tie
+use Rattle.handed.specs.Counts.{countsLaidOut}
+use Rattle.handed.proofs.counts.lay_out_counts.Statement.{statement}
+use Rattle.handed.proofs.counts.lay_out_counts.Tie as tie
 
 enum-known-progress : tie.Need-enum-known-progress
 enum-known-progress c = search needs
