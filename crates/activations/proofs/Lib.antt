@@ -1,11 +1,7 @@
--- What several proofs of `activations` share.
+-- What several proofs share, here and above.
 pub mod Magnitudes
 pub mod Ranges
 pub mod Tests
 pub mod Loops
 pub mod Zeros
-pub mod Runs
-pub mod Dots
-pub mod Bounds
-pub mod Rows
 pub mod Unique

@@ -8,7 +8,7 @@ use lib.ListN.{getD, length, replicate}
 use lib.Ieee.{Float, nan, binary32, ofBits, mul, div}
 use Rattle.memory.specs.Lists.{table}
 use Rattle.numbers.specs.Steps.{nought}
-use Rattle.numbers.specs.Readings.{largest, inverse, quantQ8}
+use Rattle.readings.specs.Readings.{largest, inverse, quantQ8}
 use Rattle.activations.specs.declared.block.Q8Block.{Q8Block}
 use Rattle.activations.specs.declared.block.Quantized.{Quantized}
 use Rattle.activations.specs.Whole.{elem, sumℤ, eqZ, every, Within}

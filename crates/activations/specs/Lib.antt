@@ -1,5 +1,3 @@
--- What an activation block is, and what the dots over it say.
+-- What an activation block is.
 pub mod Whole
 pub mod Blocks
-pub mod Dots
-pub mod Rows

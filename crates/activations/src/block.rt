@@ -67,7 +67,7 @@ fn sum_right(block: Q8Block, j: usize) -> bool
 }
 
 // Whether the block's sums are the sums of its 32s.
-pub(crate) fn sums_right(block: Q8Block) -> bool
+pub fn sums_right(block: Q8Block) -> bool
     ensures { λ r. ⌜ (r ≡ sumsRight block) × (r ≡ true → SmallSums block) ⌝ }
 {
     for j in 0..8usize {
@@ -85,7 +85,7 @@ fn quants_of(x: &[f32], inverse: f32) -> [i8; 256]
 {
     let mut qs = [0i8; 256];
     for i in 0..x.len() {
-        qs[i] = numbers::round_q8(x[i] * inverse);
+        qs[i] = readings::round_q8(x[i] * inverse);
     }
     qs
 }
@@ -103,8 +103,8 @@ pub fn quantized_block(x: &[f32]) -> Q8Block
     requires { ⌜ length (now x) ≤ 256 ⌝ }
     ensures { λ r. ⌜ r ≡ blockOf (now (x .entry)) ⌝ }
 {
-    let d = numbers::largest_magnitude(x) / 127.0;
-    block_with(d, quants_of(x, numbers::inverse_of(d)))
+    let d = readings::largest_magnitude(x) / 127.0;
+    block_with(d, quants_of(x, readings::inverse_of(d)))
 }
 
 // The block of the readings. Refuses 4 for more than 256 of them.

@@ -4,8 +4,8 @@ use mathlib.Core.List.{map}
 use lib.Ieee.{ofBits, ofFields, odd, size, span, climb, units, round, sum, add, mul, div, neg, lt, le, eq, ofInt, toBits, toSigned}
 use Rattle.refusals.specs.Refusals.{given, carriedOut}
 use Rattle.memory.specs.Lists.{table}
-use Rattle.numbers.specs.Binary16.{widened, narrowed}
-use Rattle.numbers.specs.Readings.{largest, largestValue, quantQ8, quantQ40}
+use Rattle.halves.specs.Binary16.{widened, narrowed}
+use Rattle.readings.specs.Readings.{largest, largestValue, quantQ8, quantQ40}
 use Rattle.quantizers.specs.Blocks.{scaleOf, storedScale, scaledReading, quantOf, quantByte, byteAt}
 use Rattle.quantizers.specs.Says.{packedAt, quantizeNo, quantizeSays}
 use Rattle.sums.specs.Tree.{pairUp, met, tree}

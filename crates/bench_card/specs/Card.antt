@@ -5,9 +5,9 @@ use lib.IntN.{pos}
 use lib.ListN.{length, replicate, take}
 use lib.Ieee.{Float, binary32, ofBits, toBits, ofInt}
 use Rattle.refusals.specs.Said.{Said, value, done, refused}
-use Rattle.numbers.specs.Binary16.{widened, narrowed}
+use Rattle.halves.specs.Binary16.{widened, narrowed}
 use Rattle.numbers.specs.Fields.{byteOf}
-use Rattle.numbers.specs.Readings.{inverse, quantQ8}
+use Rattle.readings.specs.Readings.{inverse, quantQ8}
 use Rattle.quantizers.specs.Says.{quantizeSays}
 use Rattle.quantizers.specs.declared.target.Target.the-variants.{Q40}
 use Rattle.sums.specs.Says.{sumSays}

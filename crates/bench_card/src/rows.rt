@@ -1,15 +1,15 @@
 // The twelve rows of the bench card: what each asks of the compiled code, and whether the answer is what the card says. A float is given by its bits.
-use numbers::bits_of;
-use numbers::f32_to_f16;
-use numbers::of_bits;
-use numbers::round_q8;
+use halves::bits_of;
+use halves::f32_to_f16;
+use halves::of_bits;
+use readings::round_q8;
 use refusals::Answer;
 use stored_answers::same_bytes;
 use stored_answers::says;
 
 // f16 `half` is `bits`.
 fn widens(half: u16, bits: u32) -> bool {
-    bits_of(numbers::f16_to_f32(half)) == bits
+    bits_of(halves::f16_to_f32(half)) == bits
 }
 
 // Q4_0 of a first reading and 31 zeros: these three bytes, then fifteen 88.
@@ -43,7 +43,7 @@ fn quantizes(inverse: u32, quants: [i8; 3]) -> bool {
     let block = answer.block;
     let qs = block.qs;
     answer.no == 0
-        && bits_of(numbers::inverse_of(block.d)) == inverse
+        && bits_of(readings::inverse_of(block.d)) == inverse
         && qs[0] == quants[0]
         && qs[1] == quants[1]
         && qs[2] == quants[2]

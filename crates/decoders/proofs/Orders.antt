@@ -5,7 +5,7 @@ use Prim.Native.Nat.{ℕ}
 use lib.IntN.{_*ℤ_}
 use lib.ListN.{replicate}
 use lib.Ieee.{binary32, mul, round, ofBits, ofInt}
-use Rattle.numbers.specs.Binary16.{widened}
+use Rattle.halves.specs.Binary16.{widened}
 use Rattle.layouts.specs.K.{quantQ6K, scaleQ6K, dOf, scaleK, quantK, valueK}
 use Rattle.layouts.specs.declared.format.FormatK.the-variants.{Q6K}
 

@@ -23,7 +23,7 @@ pub fn decode_32(format: Format32, block: &[u8], out: &mut [f32])
     requires { ⌜ (length (now block) ≡ bytes32 format) × (length (now out) ≡ 32) ⌝ }
     ensures { λ _. ⌜ now (out .exit) ≡ table (value32 format (now (block .entry))) 32 ⌝ }
 {
-    let s = numbers::f16_to_f32(numbers::le_u16(block[0], block[1]));
+    let s = halves::f16_to_f32(numbers::le_u16(block[0], block[1]));
     let q = layouts::quants_32(format, block);
     for e in 0..2usize {
         let at = 16 * e;

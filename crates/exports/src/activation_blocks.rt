@@ -3,8 +3,8 @@ use activations::Q8Block;
 use handed::lay_out;
 ghost use mathlib.Core.Path.{_≡_};
 ghost use Rattle.activations.specs.Blocks.{quantized};
-ghost use Rattle.activations.specs.Dots.{dotQ4kSays, dotQ6kSays};
-ghost use Rattle.activations.specs.Rows.{integerSays};
+ghost use Rattle.integer_dots.specs.Dots.{dotQ4kSays, dotQ6kSays};
+ghost use Rattle.integer_dots.specs.Rows.{integerSays};
 ghost use Rattle.handed.specs.Answers.{laidOut};
 ghost use Rattle.exports.specs.Blocks.{blockIn, blockLaidOut};
 
@@ -56,7 +56,7 @@ pub extern "C" fn jambharrow_dot_q4k_q8_block(
     ensures { λ r. ⌜ (r, now (value .exit)) ≡ laidOut (dotQ4kSays (now (w .entry)) (blockIn d (now (qs .entry)) (now (bsums .entry))) n) (now (value .entry)) ⌝ }
 {
     lay_out(
-        activations::dot_q4k_q8_block(w, block_in(d, qs, bsums), n),
+        integer_dots::dot_q4k_q8_block(w, block_in(d, qs, bsums), n),
         value,
     )
 }
@@ -73,7 +73,7 @@ pub extern "C" fn jambharrow_dot_q6k_q8_block(
     ensures { λ r. ⌜ (r, now (value .exit)) ≡ laidOut (dotQ6kSays (now (w .entry)) (blockIn d (now (qs .entry)) (now (bsums .entry))) n) (now (value .entry)) ⌝ }
 {
     lay_out(
-        activations::dot_q6k_q8_block(w, block_in(d, qs, bsums), n),
+        integer_dots::dot_q6k_q8_block(w, block_in(d, qs, bsums), n),
         value,
     )
 }
@@ -82,5 +82,5 @@ pub extern "C" fn jambharrow_dot_q6k_q8_block(
 pub extern "C" fn jambharrow_integer_dot_q4k(x: &[f32], w: &[u8], n: usize, value: &mut f32) -> u32
     ensures { λ r. ⌜ (r, now (value .exit)) ≡ laidOut (integerSays (now (x .entry)) (now (w .entry)) n) (now (value .entry)) ⌝ }
 {
-    lay_out(activations::integer_dot_q4k(x, w, n), value)
+    lay_out(integer_dots::integer_dot_q4k(x, w, n), value)
 }

@@ -1,17 +1,17 @@
 // Binary16.
 ghost use mathlib.Core.Path.{_≡_};
-ghost use Rattle.numbers.specs.Binary16.{widened, narrowed};
+ghost use Rattle.halves.specs.Binary16.{widened, narrowed};
 
 #[no_mangle]
 pub extern "C" fn jambharrow_f16_to_f32(half: u16) -> f32
     ensures { λ r. ⌜ r ≡ widened half ⌝ }
 {
-    numbers::f16_to_f32(half)
+    halves::f16_to_f32(half)
 }
 
 #[no_mangle]
 pub extern "C" fn jambharrow_f32_to_f16(bits: u32) -> u16
     ensures { λ r. ⌜ r ≡ narrowed bits ⌝ }
 {
-    numbers::f32_to_f16(bits)
+    halves::f32_to_f16(bits)
 }

@@ -16,7 +16,7 @@ use mir.Syntax.{w8, w32}
 use mir.Val.{SFits, toZ, ofZ}
 use mir.ValLaws.{toZ-ofZ}
 use Rattle.numbers.proofs.Signed.{read-is}
-use Rattle.numbers.proofs.Values.{Fraction, of-value, power, sub-is}
+use Rattle.readings.proofs.Values.{Fraction, of-value, power, sub-is}
 
 -- ---- the unsigned byte
 

@@ -12,7 +12,7 @@ use Rattle.layouts.specs.declared.format.Format.the-variants.{OfK}
 use Rattle.layouts.specs.declared.format.FormatK.{FormatK}
 use Rattle.activations.specs.declared.block.Q8Block.{Q8Block}
 use Rattle.activations.specs.Blocks.{heldBlock, blockOf, SmallSums}
-use Rattle.activations.specs.Dots.{blockDot}
+use Rattle.integer_dots.specs.Dots.{blockDot}
 use Rattle.held_rows.specs.declared.meeting.Meeting.{Meeting}
 use Rattle.held_rows.specs.Meets.{meets}
 

@@ -8,7 +8,7 @@ ghost use Prim.Native.Nat.{_+_, _*_, _/_, _≤_, _<_};
 ghost use lib.ListN.{length};
 ghost use Rattle.refusals.specs.Sizes.{mostIn};
 ghost use Rattle.layouts.specs.Formats.{bytesK};
-ghost use Rattle.activations.specs.Dots.{blockDot};
+ghost use Rattle.integer_dots.specs.Dots.{blockDot};
 ghost use Rattle.held_rows.specs.Meets.{meets};
 ghost use Rattle.held_rows.specs.Held.{blockHeld, heldDot, HeldRoom, HeldRow, Holds};
 
@@ -63,9 +63,9 @@ fn held_dot(format: FormatK, w: &[u8], t: usize, ds: &[f32], qs: &[i8], sums: &[
         FormatK::Q4K => {
             let at = 8 * t;
             let end = at + 8;
-            activations::held_dot_q4k(w, ds[t], &qs[from..to], &sums[at..end])
+            integer_dots::held_dot_q4k(w, ds[t], &qs[from..to], &sums[at..end])
         }
-        FormatK::Q6K => activations::held_dot_q6k(w, ds[t], &qs[from..to]),
+        FormatK::Q6K => integer_dots::held_dot_q6k(w, ds[t], &qs[from..to]),
     }
 }
 

@@ -1,4 +1,3 @@
--- What several proofs of `integer_layers` share, one answer for each contract, and a worked case.
-pub mod Outputs
+-- One answer for each contract of `integer_layers`, and a worked case.
 pub mod Unique
 pub mod Worked

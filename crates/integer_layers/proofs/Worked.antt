@@ -6,16 +6,16 @@ use lib.ListN.{replicate}
 use lib.Ieee.{Float, binary32, ofBits, ofInt, toSigned, sub, mul, div, le}
 use Rattle.refusals.specs.Said.{done}
 use Rattle.refusals.specs.Refusals.{given, carriedOut}
-use Rattle.numbers.specs.Binary16.{widened}
+use Rattle.halves.specs.Binary16.{widened}
 use Rattle.numbers.specs.Steps.{nought}
-use Rattle.numbers.specs.Readings.{largest, quantQ8}
+use Rattle.readings.specs.Readings.{largest, quantQ8}
 use Rattle.layouts.specs.K.{scaleQ4K, minimumQ4K, quantQ4K}
 use Rattle.layouts.specs.declared.format.FormatK.the-variants.{Q4K}
 use Rattle.memory.specs.Lists.{table}
 use Rattle.sums.specs.Tree.{tree, met, pairUp}
 use Rattle.activations.specs.Whole.{sumℤ}
 use Rattle.activations.specs.Blocks.{blockOf}
-use Rattle.activations.specs.Dots.{blockDot}
+use Rattle.integer_dots.specs.Dots.{blockDot}
 use Rattle.shapes.specs.Shapes.{shape, oversize, layerNo, outputs}
 use Rattle.held_rows.specs.declared.meeting.Meeting.the-variants.{Tree, Running}
 use Rattle.held_rows.specs.Meets.{running, meets}

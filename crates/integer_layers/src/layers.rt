@@ -1,7 +1,7 @@
 // The calls. Each refuses 6, 2, 3, 4 and 5, in this order.
-use crate::rows::rows_of_16;
-use crate::rows::rows_of_512;
 use held_rows::Meeting;
+use integer_rows::rows_of_16;
+use integer_rows::rows_of_512;
 use layouts::FormatK;
 use refusals::Outcome;
 use shapes::Shape;

@@ -6,7 +6,7 @@ use lib.Dec.{ltb}
 use lib.IntN.{ℤ, pos, _-ℤ_}
 use lib.ListN.{getD}
 use lib.Ieee.{Float, binary32, mul, sub, ofInt}
-use Rattle.numbers.specs.Binary16.{widened}
+use Rattle.halves.specs.Binary16.{widened}
 use Rattle.numbers.specs.Fields.{le16, signed}
 use Rattle.layouts.specs.Of32.{nibble}
 use Rattle.layouts.specs.declared.format.FormatK.{FormatK}

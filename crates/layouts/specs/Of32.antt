@@ -4,7 +4,7 @@ use mathlib.Core.List.{List}
 use lib.IntN.{ℤ, pos, _-ℤ_}
 use lib.ListN.{getD}
 use lib.Ieee.{Float, binary32, mul, ofInt}
-use Rattle.numbers.specs.Binary16.{widened}
+use Rattle.halves.specs.Binary16.{widened}
 use Rattle.numbers.specs.Fields.{le16, le32, signed}
 use Rattle.layouts.specs.declared.format.Format32.{Format32}
 use Rattle.layouts.specs.declared.format.Format32.the-variants.{Q40, Q50, Q80}

@@ -38,7 +38,7 @@ pub fn scales_q4k(block: &[u8]) -> [f32; 8]
     requires { ⌜ length (now block) ≡ 144 ⌝ }
     ensures { λ r. ⌜ r ≡ table (λ j. mul binary32 (dOf FormatK.Q4K (now (block .entry))) (ofInt binary32 (pos (scaleQ4K (now (block .entry)) j)))) 8 ⌝ }
 {
-    let d = numbers::f16_to_f32(numbers::le_u16(block[0], block[1]));
+    let d = halves::f16_to_f32(numbers::le_u16(block[0], block[1]));
     let mut s = [0.0f32; 8];
     for j in 0..8usize {
         s[j] = d * scale_q4k(block, j) as f32;
@@ -51,7 +51,7 @@ pub fn minimums_q4k(block: &[u8]) -> [f32; 8]
     requires { ⌜ length (now block) ≡ 144 ⌝ }
     ensures { λ r. ⌜ r ≡ table (λ j. mul binary32 (dminOf (now (block .entry))) (ofInt binary32 (pos (minimumQ4K (now (block .entry)) j)))) 8 ⌝ }
 {
-    let dmin = numbers::f16_to_f32(numbers::le_u16(block[2], block[3]));
+    let dmin = halves::f16_to_f32(numbers::le_u16(block[2], block[3]));
     let mut m = [0.0f32; 8];
     for j in 0..8usize {
         m[j] = dmin * minimum_q4k(block, j) as f32;
@@ -120,7 +120,7 @@ pub fn scales_q6k(block: &[u8]) -> [f32; 16]
     requires { ⌜ length (now block) ≡ 210 ⌝ }
     ensures { λ r. ⌜ r ≡ table (λ e. mul binary32 (dOf FormatK.Q6K (now (block .entry))) (ofInt binary32 (scaleQ6K (now (block .entry)) (16 * e)))) 16 ⌝ }
 {
-    let d = numbers::f16_to_f32(numbers::le_u16(block[208], block[209]));
+    let d = halves::f16_to_f32(numbers::le_u16(block[208], block[209]));
     let mut s = [0.0f32; 16];
     for e in 0..16usize {
         s[e] = d * numbers::signed_byte(block[192 + e]) as f32;

@@ -62,6 +62,6 @@ pub(crate) fn put_output(line: &mut [u8], at: usize, output: f32) -> usize
     ensures { λ _. ⌜ now (line .exit) ≡ laid (now (line .entry)) at (hexField (toBits binary32 output)) ⌝ }
     ensures { λ r. ⌜ r ≡ at + 9 ⌝ }
 {
-    let text = hex_field(numbers::bits_of(output));
+    let text = hex_field(halves::bits_of(output));
     put(line, at, &text)
 }

@@ -1,5 +1,3 @@
--- What the numbers are.
-pub mod Binary16
+-- What the steps and the fields are.
 pub mod Fields
 pub mod Steps
-pub mod Readings

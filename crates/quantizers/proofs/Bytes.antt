@@ -11,7 +11,7 @@ use lib.Ieee.{Float, nan, binary32, mul}
 use Rattle.memory.specs.Lists.{table}
 use Rattle.memory.proofs.Filled.{Filling, filling-start, filling-more, filled-all, part-turn}
 use Rattle.numbers.specs.Fields.{byteOf}
-use Rattle.numbers.specs.Readings.{inverse, quantQ8, quantQ40}
+use Rattle.readings.specs.Readings.{inverse, quantQ8, quantQ40}
 use Rattle.quantizers.specs.Blocks.{blockSize, scaleOf, storedScale, scaledReading, quantOf, quantByte, byteAt}
 use Rattle.quantizers.specs.Says.{packedAt}
 use Rattle.quantizers.specs.declared.target.Target.{Target}

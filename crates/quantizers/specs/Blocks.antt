@@ -4,9 +4,9 @@ use mathlib.Core.List.{List}
 use lib.IntN.{ℤ}
 use lib.ListN.{getD}
 use lib.Ieee.{Float, nan, binary32, mul, div, ofBits, toBits}
-use Rattle.numbers.specs.Binary16.{narrowed}
+use Rattle.halves.specs.Binary16.{narrowed}
 use Rattle.numbers.specs.Fields.{byteOf}
-use Rattle.numbers.specs.Readings.{largest, largestValue, inverse, quantQ8, quantQ40}
+use Rattle.readings.specs.Readings.{largest, largestValue, inverse, quantQ8, quantQ40}
 use Rattle.quantizers.specs.declared.target.Target.{Target}
 use Rattle.quantizers.specs.declared.target.Target.the-variants.{Q40, Q80}
 

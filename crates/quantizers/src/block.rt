@@ -6,7 +6,7 @@ ghost use lib.ListN.{length, getD};
 ghost use lib.Ieee.{nan, binary32, mul};
 ghost use Rattle.memory.specs.Lists.{table};
 ghost use Rattle.numbers.specs.Fields.{byteOf};
-ghost use Rattle.numbers.specs.Readings.{quantQ8, quantQ40};
+ghost use Rattle.readings.specs.Readings.{quantQ8, quantQ40};
 ghost use Rattle.quantizers.specs.Blocks.{blockSize, scaleOf, storedScale, byteAt};
 
 // The scale that a block gets: d.
@@ -15,8 +15,8 @@ fn scale_of(target: Target, x: &[f32]) -> f32
     ensures { λ r. ⌜ r ≡ scaleOf target (now (x .entry)) ⌝ }
 {
     match target {
-        Target::Q40 => numbers::largest_value(x) / -8.0,
-        Target::Q80 => numbers::largest_magnitude(x) / 127.0,
+        Target::Q40 => readings::largest_value(x) / -8.0,
+        Target::Q80 => readings::largest_magnitude(x) / 127.0,
     }
 }
 
@@ -24,7 +24,7 @@ fn scale_of(target: Target, x: &[f32]) -> f32
 fn stored_scale(d: f32) -> u16
     ensures { λ r. ⌜ r ≡ storedScale d ⌝ }
 {
-    numbers::f32_to_f16(numbers::bits_of(d))
+    halves::f32_to_f16(halves::bits_of(d))
 }
 
 // Q4_0's quants: those of readings 2k and 2k+1 share byte k.
@@ -33,8 +33,8 @@ fn write_quants_q4_0(x: &[f32], inverse: f32, out: &mut [u8])
     ensures { λ _. ⌜ now (out .exit) ≡ table (λ k. byteOf (quantQ40 (mul binary32 (getD (now (x .entry)) (2 * k) nan) inverse)) + 16 * byteOf (quantQ40 (mul binary32 (getD (now (x .entry)) (2 * k + 1) nan) inverse))) 16 ⌝ }
 {
     for k in 0..16usize {
-        let low = numbers::round_q4_0(x[2 * k] * inverse);
-        let high = numbers::round_q4_0(x[2 * k + 1] * inverse);
+        let low = readings::round_q4_0(x[2 * k] * inverse);
+        let high = readings::round_q4_0(x[2 * k + 1] * inverse);
         out[k] = low + 16 * high;
     }
 }
@@ -45,7 +45,7 @@ fn write_quants_q8_0(x: &[f32], inverse: f32, out: &mut [u8])
     ensures { λ _. ⌜ now (out .exit) ≡ table (λ k. byteOf (quantQ8 (mul binary32 (getD (now (x .entry)) k nan) inverse))) 32 ⌝ }
 {
     for k in 0..32usize {
-        out[k] = numbers::unsigned_byte(numbers::round_q8(x[k] * inverse));
+        out[k] = numbers::unsigned_byte(readings::round_q8(x[k] * inverse));
     }
 }
 
@@ -55,7 +55,7 @@ pub fn quantize_block(target: Target, x: &[f32], out: &mut [u8])
     ensures { λ _. ⌜ now (out .exit) ≡ table (byteAt target (now (x .entry))) (blockSize target) ⌝ }
 {
     let d = scale_of(target, x);
-    let inverse = numbers::inverse_of(d);
+    let inverse = readings::inverse_of(d);
     let half = stored_scale(d);
     out[0] = (half % 256) as u8;
     out[1] = (half / 256) as u8;

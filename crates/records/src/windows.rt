@@ -13,7 +13,7 @@ pub fn readings(p: &[u8], x: &mut [f32])
 {
     let mut k: usize = 0;
     while k < x.len() {
-        x[k] = numbers::of_bits(bits_at(p, k * 4));
+        x[k] = halves::of_bits(bits_at(p, k * 4));
         k += 1;
     }
 }

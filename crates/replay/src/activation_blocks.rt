@@ -39,8 +39,8 @@ fn judge_quantize_block_q8(payload: &[u8]) -> Finding {
 
 fn block_dot(format: FormatK, w: &[u8], xq: Q8Block, n: usize) -> Answer {
     match format {
-        FormatK::Q4K => activations::dot_q4k_q8_block(w, xq, n),
-        FormatK::Q6K => activations::dot_q6k_q8_block(w, xq, n),
+        FormatK::Q4K => integer_dots::dot_q4k_q8_block(w, xq, n),
+        FormatK::Q6K => integer_dots::dot_q6k_q8_block(w, xq, n),
     }
 }
 
@@ -54,7 +54,7 @@ fn judge_block_dot(format: FormatK, payload: &[u8]) -> Finding {
         return Finding::Malformed;
     }
     let number = u32_at(payload, end);
-    let value = numbers::of_bits(u32_at(payload, end + 4));
+    let value = halves::of_bits(u32_at(payload, end + 4));
     let xq = read_block(&payload[block..end]);
     Finding::of_answer(block_dot(format, &payload[8..block], xq, n), number, value)
 }

@@ -15,7 +15,7 @@ fn judge_f16_to_f32(payload: &[u8]) -> Finding {
     }
     let half = numbers::le_u16(payload[0], payload[1]);
     let answer = numbers::le_u32(payload[2], payload[3], payload[4], payload[5]);
-    Finding::of_floats(numbers::f16_to_f32(half), numbers::of_bits(answer))
+    Finding::of_floats(halves::f16_to_f32(half), halves::of_bits(answer))
 }
 
 fn judge_f32_to_f16(payload: &[u8]) -> Finding {
@@ -24,5 +24,5 @@ fn judge_f32_to_f16(payload: &[u8]) -> Finding {
     }
     let bits = numbers::le_u32(payload[0], payload[1], payload[2], payload[3]);
     let answer = numbers::le_u16(payload[4], payload[5]);
-    Finding::of_same(numbers::f32_to_f16(bits) == answer)
+    Finding::of_same(halves::f32_to_f16(bits) == answer)
 }

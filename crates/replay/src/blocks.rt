@@ -22,14 +22,14 @@ fn read_quants(payload: &[u8]) -> [i8; 256] {
 fn read_sums(payload: &[u8]) -> [i32; 8] {
     let mut sums = [0i32; 8];
     for j in 0..8usize {
-        sums[j] = numbers::truncate(numbers::of_bits(u32_at(payload, SUMS + 4 * j)));
+        sums[j] = numbers::truncate(halves::of_bits(u32_at(payload, SUMS + 4 * j)));
     }
     sums
 }
 
 // The payload's first block.
 pub fn read_block(payload: &[u8]) -> Q8Block {
-    let d = numbers::of_bits(u32_at(payload, 0));
+    let d = halves::of_bits(u32_at(payload, 0));
     let qs = read_quants(payload);
     let bsums = read_sums(payload);
     Q8Block { d, qs, bsums }

@@ -56,7 +56,7 @@ fn judge_rows(call: OfRows, payload: &[u8]) -> Finding {
         return Finding::Malformed;
     }
     let number = u32_at(payload, end);
-    let value = numbers::of_bits(u32_at(payload, end + 4));
+    let value = halves::of_bits(u32_at(payload, end + 4));
     let mut x = [0.0f32; MOST];
     let mut w = [0.0f32; MOST];
     let ours = answer_on(
@@ -88,7 +88,7 @@ fn judge_canonical_combine(payload: &[u8]) -> Finding {
     if payload.len() != left + 4 * len {
         return Finding::Malformed;
     }
-    let sum = numbers::of_bits(u32_at(payload, end));
+    let sum = halves::of_bits(u32_at(payload, end));
     let mut list = [0.0f32; MOST];
     judge_list(&payload[4..end], &mut list[..len], sum, &payload[left..])
 }

@@ -15,7 +15,7 @@ enum RowDot {
 
 fn answer(dot: RowDot, x: &[f32], w: &[u8], n: usize) -> Answer {
     match dot {
-        RowDot::IntegerQ4k => activations::integer_dot_q4k(x, w, n),
+        RowDot::IntegerQ4k => integer_dots::integer_dot_q4k(x, w, n),
         RowDot::FusedQ4k => fused::canonical_dot_q4k_fused(x, w, n),
         RowDot::FusedQ6k => fused::q6k_fused_f32_dot(x, w, n),
     }
@@ -41,7 +41,7 @@ fn judge_row(dot: RowDot, payload: &[u8]) -> Finding {
         return Finding::Malformed;
     }
     let number = u32_at(payload, end);
-    let value = numbers::of_bits(u32_at(payload, end + 4));
+    let value = halves::of_bits(u32_at(payload, end + 4));
     let mut x = [0.0f32; MOST];
     let ours = answer_on(
         dot,

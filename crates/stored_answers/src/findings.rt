@@ -43,7 +43,7 @@ impl Finding {
 
 // Whether two floats are the same bits, or both NaN.
 pub fn same_bits(a: f32, b: f32) -> bool {
-    numbers::bits_of(a) == numbers::bits_of(b)
+    halves::bits_of(a) == halves::bits_of(b)
 }
 
 // Whether a call that fills lent memory says this number: that it is done is 0.

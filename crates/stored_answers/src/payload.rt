@@ -30,7 +30,7 @@ pub fn byte_at(payload: &[u8], at: usize) -> u8 {
 pub fn read_floats(payload: &[u8], out: &mut [f32]) {
     let mut i: usize = 0;
     while i < out.len() {
-        out[i] = numbers::of_bits(u32_at(payload, 4 * i));
+        out[i] = halves::of_bits(u32_at(payload, 4 * i));
         i += 1;
     }
 }
@@ -39,7 +39,7 @@ pub fn read_floats(payload: &[u8], out: &mut [f32]) {
 pub fn same_floats(payload: &[u8], floats: &[f32]) -> bool {
     let mut i: usize = 0;
     while i < floats.len() {
-        if !same_bits(floats[i], numbers::of_bits(u32_at(payload, 4 * i))) {
+        if !same_bits(floats[i], halves::of_bits(u32_at(payload, 4 * i))) {
             return false;
         }
         i += 1;

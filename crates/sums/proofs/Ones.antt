@@ -15,7 +15,7 @@ use lib.Ieee.{Float, nan, inf, fin, Format, binary32, prec, emax, low, unlike, u
 use lib.Ieee.Digits.{back}
 use lib.Ieee.Fits.{reach, and-l, and-r, down-pos, round-fits}
 use lib.Ieee.Exact.{HasValue, round-exact}
-use Rattle.numbers.proofs.SameValue.{same-value}
+use Rattle.halves.proofs.SameValue.{same-value}
 use Rattle.sums.specs.Lanes.{products, values}
 use Rattle.sums.specs.Rows.{rowSum}
 use Rattle.sums.specs.Says.{dotSays, sumSays}

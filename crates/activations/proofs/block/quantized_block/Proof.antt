@@ -2,7 +2,7 @@
 use mathlib.Core.Path.{ap, _∙_}
 use lib.Ieee.{Float, binary32, ofBits, div}
 use Rattle.memory.specs.Lists.{table}
-use Rattle.numbers.specs.Readings.{inverse}
+use Rattle.readings.specs.Readings.{inverse}
 use Rattle.activations.specs.Blocks.{quantAt, blockWith, blockOf}
 use borrow.Author.Needs.{needs}
 use Rattle.activations.proofs.block.quantized_block.Statement.{statement}

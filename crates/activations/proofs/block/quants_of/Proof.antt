@@ -10,7 +10,7 @@ use lib.Ieee.{nan, binary32, mul}
 use mir.Syntax.{w8}
 use Rattle.memory.specs.Lists.{filled}
 use Rattle.memory.proofs.Filled.{Filling, filling-start, filling-more}
-use Rattle.numbers.specs.Readings.{quantQ8}
+use Rattle.readings.specs.Readings.{quantQ8}
 use Rattle.numbers.proofs.Signed.{read-is}
 use Rattle.activations.specs.Blocks.{quantAt}
 use Rattle.activations.proofs.Zeros.{zeros-behind}

@@ -5,7 +5,7 @@ use mathlib.Core.List.{List}
 use lib.IntN.{ℤ, pos}
 use lib.ListN.{getD}
 use lib.Ieee.{Float, binary32, mul, ofInt}
-use Rattle.numbers.specs.Binary16.{widened}
+use Rattle.halves.specs.Binary16.{widened}
 use Rattle.numbers.specs.Fields.{le16}
 use Rattle.memory.proofs.Filled.{part-at, getD-table, table-ext}
 use native.Mathlib.Omega.{arith}

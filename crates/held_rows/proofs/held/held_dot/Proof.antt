@@ -8,7 +8,7 @@ use Rattle.layouts.specs.declared.format.FormatK.{FormatK}
 use Rattle.layouts.specs.declared.format.FormatK.the-variants.{Q4K, Q6K}
 use Rattle.activations.specs.declared.block.Q8Block.{Q8Block}
 use Rattle.activations.specs.Blocks.{SmallSums}
-use Rattle.activations.specs.Dots.{blockDot}
+use Rattle.integer_dots.specs.Dots.{blockDot}
 use Rattle.held_rows.specs.Held.{blockHeld}
 use Rattle.held_rows.proofs.Blocks.{lent-held}
 use native.Mathlib.Omega.{arith}

@@ -5,7 +5,7 @@ use mathlib.Core.List.{List}
 use lib.IntN.{pos}
 use lib.ListN.{replicate}
 use lib.Ieee.{Float, binary32, ofBits, mul, ofInt}
-use Rattle.numbers.specs.Binary16.{widened}
+use Rattle.halves.specs.Binary16.{widened}
 use native.Mathlib.Omega.{arith}
 use borrow.Author.Needs.{needs}
 use Rattle.layouts.specs.K.{scaleQ4K, dOf}

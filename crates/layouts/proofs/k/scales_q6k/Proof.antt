@@ -6,7 +6,7 @@ use mathlib.Core.List.{List}
 use lib.ListN.{replicate}
 use lib.Ieee.{Float, binary32, ofBits, mul, ofInt}
 use mir.Syntax.{w8}
-use Rattle.numbers.specs.Binary16.{widened}
+use Rattle.halves.specs.Binary16.{widened}
 use Rattle.numbers.proofs.Signed.{read-is}
 use native.Mathlib.Omega.{arith}
 use borrow.Author.Needs.{needs}

@@ -1,6 +1,6 @@
 -- `block::stored_scale` meets its contract. Assumes nothing.
 use mathlib.Core.Path.{ap, _∙_}
-use Rattle.numbers.specs.Binary16.{narrowed}
+use Rattle.halves.specs.Binary16.{narrowed}
 use borrow.Author.Needs.{needs}
 use Rattle.quantizers.specs.Blocks.{storedScale}
 use Rattle.quantizers.proofs.block.stored_scale.Statement.{statement}

@@ -1,7 +1,7 @@
 -- `block::write_quants_q4_0` meets its contract: the places are filled in turn. Assumes nothing.
 use mathlib.Core.Path.{sym, _∙_}
 use Prim.Native.Nat.{_-_}
-use Rattle.numbers.proofs.Held.{q40-nibble}
+use Rattle.readings.proofs.Held.{q40-nibble}
 use Rattle.memory.proofs.Filled.{Filling, filling-start, filling-more, filling-done}
 use native.Mathlib.Omega.{arith}
 use borrow.Author.Needs.{needs}

@@ -1,0 +1,34 @@
+-- `binary16::f32_to_f16` meets its contract. Assumes nothing.
+use mathlib.Core.Path.{ap}
+use Prim.Native.Nat.{ℕ, _+_, _*_, _/_}
+use native.Mathlib.Omega.{arith}
+use borrow.Author.Needs.{needs}
+use Rattle.halves.specs.Binary16.{narrowed}
+use Rattle.halves.proofs.binary16.f32_to_f16.Statement.{statement}
+use Rattle.halves.proofs.binary16.f32_to_f16.Tie as tie
+
+cast-sign : tie.Need-cast-sign
+cast-sign c = omega arith
+
+mul-result : tie.Need-mul-result
+mul-result c = omega arith
+
+narrowed-magnitude-requires : tie.Need-narrowed-magnitude-requires
+narrowed-magnitude-requires c κs = search needs
+
+add-result : tie.Need-add-result
+add-result c = omega arith
+
+returns : tie.Need-returns
+unfolding narrowed
+returns c = ap (λ (m : ℕ). c .before .args .bits / 2147483648 * 32768 + m) (c .narrowed-magnitude .ensures .0)
+
+pub f32-to-f16-spec : {M : Type 1} → statement M
+f32-to-f16-spec =
+    tie.close
+    (tie.spec
+    cast-sign
+    mul-result
+    narrowed-magnitude-requires
+    add-result
+    returns)

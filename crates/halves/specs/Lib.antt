@@ -1,0 +1,2 @@
+-- What binary16 is.
+pub mod Binary16

@@ -1,0 +1,2 @@
+-- The outputs of a row that is held.
+pub mod Outputs

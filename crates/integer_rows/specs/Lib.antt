@@ -1,0 +1,2 @@
+-- What the integer layers put into their output.
+pub mod Outputs

@@ -1,0 +1,12 @@
+-- `readings::larger_of` meets its contract. Assumes nothing.
+use Rattle.readings.proofs.magnitudes.larger_of.Statement.{statement}
+use Rattle.readings.proofs.magnitudes.larger_of.Tie as tie
+
+returns : tie.Need-returns
+returns c = rw (c .if1 .taken)
+
+returns-2 : tie.Need-returns-2
+returns-2 c = rw (c .if1 .left)
+
+pub larger-of-spec : {M : Type 1} → statement M
+larger-of-spec = tie.close (tie.spec returns returns-2)

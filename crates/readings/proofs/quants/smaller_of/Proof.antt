@@ -1,0 +1,12 @@
+-- `readings::smaller_of` meets its contract. Assumes nothing.
+use Rattle.readings.proofs.quants.smaller_of.Statement.{statement}
+use Rattle.readings.proofs.quants.smaller_of.Tie as tie
+
+returns : tie.Need-returns
+returns c = rw (c .if1 .taken)
+
+returns-2 : tie.Need-returns-2
+returns-2 c = rw (c .if1 .left)
+
+pub smaller-of-spec : {M : Type 1} → statement M
+smaller-of-spec = tie.close (tie.spec returns returns-2)

@@ -1,0 +1,2 @@
+-- What readings become.
+pub mod Readings
