@@ -1,5 +1,4 @@
 -- Why the `_cpu` layers meet their contracts.
 pub mod Columns
 pub mod CpuFits
-pub mod WholeRows
 pub mod Unique

@@ -1,6 +1,6 @@
 // The `_cpu` layers: a row of weights is decoded into scratch once, and serves every row of readings.
 use crate::cpu_checks::cpu_no;
-use crate::decoded_row::decode_row;
+use decoded_rows::decode_row;
 use layouts::Format;
 use layouts::Format32;
 use layouts::FormatK;

@@ -1,7 +1,6 @@
 // The `_cpu` layers: a row of packed weights is decoded once, and serves every row of readings.
 mod cpu;
 mod cpu_checks;
-mod decoded_row;
 
 pub use cpu::linear_q4_0_cpu;
 pub use cpu::linear_q4_k_cpu;

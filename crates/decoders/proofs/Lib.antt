@@ -1,5 +1,3 @@
 -- What several proofs of `decoders` share.
-pub mod Runs
 pub mod Refused
 pub mod Unique
-pub mod Orders

@@ -1,6 +1,6 @@
 // The block decoders: every block's values, each block's in its own places in the middle of the output.
-use crate::k::decode_k;
-use crate::of32::decode_32;
+use decoded_blocks::decode_32;
+use decoded_blocks::decode_k;
 use layouts::Format;
 use layouts::Format32;
 use layouts::FormatK;

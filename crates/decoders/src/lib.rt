@@ -1,7 +1,5 @@
 // The block decoders: packed blocks become floats.
 mod blocks;
-mod k;
-mod of32;
 
 pub use blocks::decode_blocks;
 pub use blocks::dequantize_q4_0;
@@ -9,4 +7,3 @@ pub use blocks::dequantize_q4_k;
 pub use blocks::dequantize_q5_0;
 pub use blocks::dequantize_q6_k;
 pub use blocks::dequantize_q8_0;
-pub use k::decode_k;

@@ -7,8 +7,8 @@ use lib.ListN.{length, take, drop, length-append, take-append-drop}
 use lib.Seq.{length-take-le}
 use Rattle.records.specs.Frame.{payloadAt}
 use Rattle.records.specs.Found.{Found, foundAt, later}
-use Rattle.lines.specs.Text.{laid}
-use Rattle.lines.proofs.Laid.{laid-front}
+use Rattle.text.specs.Text.{laid}
+use Rattle.text.proofs.Laid.{laid-front}
 use Rattle.filling.specs.declared.state.State.{State}
 use Rattle.filling.specs.declared.state.Reply.{Reply}
 use Rattle.filling.specs.Kept.{Held, Ready}

@@ -4,8 +4,8 @@ use mathlib.Core.Path.{_≡_, refl, sym, ap, _∙_}
 use mathlib.Core.List.{List, _++_}
 use lib.ListN.{length, take, drop}
 use lib.Seq.{take-length}
-use Rattle.lines.specs.Text.{laid}
-use Rattle.lines.proofs.Laid.{laid-front}
+use Rattle.text.specs.Text.{laid}
+use Rattle.text.proofs.Laid.{laid-front}
 use Rattle.stepped_shape.specs.declared.shape.Layer.{Layer}
 use Rattle.filling.specs.declared.state.State.{State}
 

@@ -12,7 +12,7 @@ use Rattle.stepped.specs.History.{inOneGo}
 use Rattle.records.specs.Frame.{payloadAt}
 use Rattle.records.specs.Kinds.{readingAt}
 use Rattle.records.specs.Found.{Found, ended, layer, window, warmUp, refused, foundAt, later}
-use Rattle.lines.specs.Text.{laid}
+use Rattle.text.specs.Text.{laid}
 use Rattle.lines.specs.Lines.{layerLine, windowLine, refusedLine, stopLine, endLine}
 use Rattle.filling.specs.declared.state.State.{State}
 use Rattle.filling.specs.declared.state.Reply.{Reply}

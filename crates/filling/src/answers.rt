@@ -9,7 +9,7 @@ ghost use mathlib.Core.Path.{_≡_};
 ghost use Prim.Native.Nat.{_+_, _*_, _^_, _≤_, _<_};
 ghost use mathlib.Core.List.{[]};
 ghost use lib.ListN.{length, take, drop};
-ghost use Rattle.lines.specs.Text.{laid};
+ghost use Rattle.text.specs.Text.{laid};
 ghost use Rattle.records.specs.Found.{ended, layer, window, warmUp, refused};
 ghost use Rattle.filling.specs.Kept.{Held, Ready};
 ghost use Rattle.filling.specs.Answers.{Replied, respond, answerTo};

@@ -21,7 +21,7 @@ use Rattle.sums.specs.Lanes.{products}
 use Rattle.sums.specs.Rows.{rowSum}
 use Rattle.sums.specs.Says.{dotSays}
 use Rattle.sums.proofs.RowLaws.{row-cong}
-use Rattle.fused.specs.Terms.{terms}
+use Rattle.fused_chunks.specs.Terms.{terms}
 use Rattle.fused.specs.Says.{fusedSays}
 
 -- a decoder that refuses nothing was handed whole blocks

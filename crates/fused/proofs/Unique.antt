@@ -1,12 +1,8 @@
 -- Each call has one answer: at the same arguments its contract holds of no two. Assumes nothing.
 use Rattle.refusals.proofs.Once.{OneResult, same, one-answer}
-use Rattle.fused.proofs.chunk.chunk_dot.Reads as chunk
 use Rattle.fused.proofs.dot.fused_dot.Reads as dot
 use Rattle.fused.proofs.dot.canonical_dot_q4k_fused.Reads as q4k
 use Rattle.fused.proofs.dot.q6k_fused_f32_dot.Reads as q6k
-
-pub chunk-once : OneResult chunk.Post
-chunk-once κs a x y s t h k = same h k
 
 pub dot-once : OneResult dot.Post
 dot-once κs a x y s t h k = one-answer x y (same h k)

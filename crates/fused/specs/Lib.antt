@@ -1,3 +1,2 @@
--- The terms of the fused dots, and what the calls over them say.
-pub mod Terms
+-- What the fused dots say.
 pub mod Says

@@ -1,5 +1,5 @@
 // The fused dot of a row: the sums of its chunks meet in the tree.
-use crate::chunk::chunk_dot;
+use fused_chunks::chunk_dot;
 use layouts::Format;
 use layouts::FormatK;
 use refusals::Answer;
@@ -10,7 +10,7 @@ ghost use Rattle.refusals.specs.Said.{saidBy};
 ghost use Rattle.refusals.specs.Sizes.{mostIn};
 ghost use Rattle.layouts.specs.Weights.{valuesOf};
 ghost use Rattle.sums.specs.Rows.{rowSum};
-ghost use Rattle.fused.specs.Terms.{terms};
+ghost use Rattle.fused_chunks.specs.Terms.{terms};
 ghost use Rattle.fused.specs.Says.{fusedSays};
 
 // The dot of the first n places.

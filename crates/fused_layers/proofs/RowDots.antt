@@ -13,7 +13,7 @@ use Rattle.memory.specs.Lists.{table}
 use Rattle.layouts.specs.declared.format.FormatK.{FormatK}
 use Rattle.sums.specs.Tree.{tree, met}
 use Rattle.sums.specs.Rows.{rowSum}
-use Rattle.fused.specs.Terms.{terms}
+use Rattle.fused_chunks.specs.Terms.{terms}
 use Rattle.fused.specs.Says.{fusedSays}
 use Rattle.shapes.specs.Shapes.{rowBytes}
 use Rattle.shapes.proofs.Rows.{row-values}

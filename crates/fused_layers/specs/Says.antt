@@ -7,7 +7,7 @@ use Rattle.refusals.specs.Said.{Said}
 use Rattle.refusals.specs.Refusals.{carriedOut}
 use Rattle.layouts.specs.declared.format.FormatK.{FormatK}
 use Rattle.sums.specs.Rows.{rowSum}
-use Rattle.fused.specs.Terms.{terms}
+use Rattle.fused_chunks.specs.Terms.{terms}
 use Rattle.shapes.specs.declared.Shape.{Shape}
 use Rattle.shapes.specs.Shapes.{layerNo, readingRow, weightRow, outputs}
 

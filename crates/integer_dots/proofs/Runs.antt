@@ -14,7 +14,7 @@ use Rattle.numbers.specs.Fields.{signed}
 use Rattle.layouts.specs.K.{quantQ4K, scaleQ4K, quantQ6K, quantK, scaleK}
 use Rattle.layouts.specs.declared.format.FormatK.{FormatK}
 use Rattle.layouts.specs.declared.format.FormatK.the-variants.{Q4K, Q6K}
-use Rattle.layouts.proofs.Scales.{scale-run}
+use Rattle.k_layouts.proofs.Scales.{scale-run}
 use Rattle.activations.specs.Whole.{elem, sumℤ}
 use Rattle.integer_dots.specs.Dots.{weighedAt, wholeSum}
 use Rattle.activations.proofs.Ranges.{sum-same, sum-scale, sum-runs, sum-cut}

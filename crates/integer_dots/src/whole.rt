@@ -66,10 +66,10 @@ pub(crate) fn whole_q4k(w: &[u8], x: &[i8]) -> i32
     requires { ⌜ (length (now w) ≡ 144) × (length (now x) ≡ 256) ⌝ }
     ensures { λ r. ⌜ r ≡ wholeSum FormatK.Q4K (now (w .entry)) (now (x .entry)) 256 ⌝ }
 {
-    let q = layouts::quants_q4k(w);
+    let q = k_layouts::quants_q4k(w);
     let mut a: i32 = 0;
     for j in 0..8usize {
-        a += weighed(layouts::scale_q4k(w, j) as i8, run_of_32(&q, x, j));
+        a += weighed(k_layouts::scale_q4k(w, j) as i8, run_of_32(&q, x, j));
     }
     a
 }
@@ -79,7 +79,7 @@ pub(crate) fn whole_q6k(w: &[u8], x: &[i8]) -> i32
     requires { ⌜ (length (now w) ≡ 210) × (length (now x) ≡ 256) ⌝ }
     ensures { λ r. ⌜ r ≡ wholeSum FormatK.Q6K (now (w .entry)) (now (x .entry)) 256 ⌝ }
 {
-    let q = layouts::quants_q6k(w);
+    let q = k_layouts::quants_q6k(w);
     let mut a: i32 = 0;
     for e in 0..16usize {
         a += weighed(numbers::signed_byte(w[192 + e]), run_of_16(&q, x, e));
@@ -106,7 +106,7 @@ pub(crate) fn minimum_sum(w: &[u8], sums: &[i32]) -> i32
 {
     let mut m: i32 = 0;
     for j in 0..8usize {
-        m += weighed(layouts::minimum_q4k(w, j) as i8, sums[j]);
+        m += weighed(k_layouts::minimum_q4k(w, j) as i8, sums[j]);
     }
     m
 }

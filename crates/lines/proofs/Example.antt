@@ -3,7 +3,7 @@ use mathlib.Core.Path.{_≡_, refl}
 use mathlib.Core.List.{[], _∷_}
 use lib.Ieee.{nan, binary32, ofBits, toBits}
 use Rattle.memory.specs.Lists.{table}
-use Rattle.lines.specs.Text.{decimalIn, decimal, field, hexDigit, hex8, hexField}
+use Rattle.text.specs.Text.{decimalIn, decimal, field, hexDigit, hex8, hexField}
 use Rattle.lines.specs.Lines.{layerLine, windowHead, outputFields, windowLine, refusedLine, endLine}
 
 -- `layer 4 256 1`

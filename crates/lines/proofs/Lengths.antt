@@ -5,7 +5,7 @@ use mathlib.Core.List.{List}
 use lib.Ieee.{Float}
 use lib.ListN.{length, length-append}
 use Rattle.lines.specs.Lines.{layerLine, windowHead, windowLine, refusedLine, stopLine, endLine}
-use Rattle.lines.proofs.Decimal.{length-field}
+use Rattle.text.proofs.Decimal.{length-field}
 use Rattle.lines.proofs.Outputs.{length-output-fields}
 
 -- the length of a line

@@ -7,10 +7,10 @@ use mathlib.Core.List.{List, [], _∷_, _++_, append-assoc, append-nil}
 use lib.Ieee.{Float, nan, binary32, toBits}
 use lib.ListN.{length, getD, take, length-append}
 use lib.Seq.{take-all, take-suc, length-take-le}
-use Rattle.lines.specs.Text.{laid, hexField}
+use Rattle.text.specs.Text.{laid, hexField}
 use Rattle.lines.specs.Lines.{outputFields}
-use Rattle.lines.proofs.Laid.{laid-behind, laid-nothing}
-use Rattle.lines.proofs.Hexadecimal.{length-hex-field}
+use Rattle.text.proofs.Laid.{laid-behind, laid-nothing}
+use Rattle.text.proofs.Hexadecimal.{length-hex-field}
 
 output-fields-both : (ys zs : List Float) → outputFields (ys ++ zs) ≡ outputFields ys ++ outputFields zs
 unfolding outputFields

@@ -1,3 +1,2 @@
--- The text that `fillin` writes.
-pub mod Text
+-- The lines that `fillin` writes.
 pub mod Lines

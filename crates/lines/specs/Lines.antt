@@ -2,7 +2,7 @@
 use Prim.Native.Nat.{ℕ}
 use mathlib.Core.List.{List, [], _∷_, _++_}
 use lib.Ieee.{Float, binary32, toBits}
-use Rattle.lines.specs.Text.{field, hexField}
+use Rattle.text.specs.Text.{field, hexField}
 
 -- what ends each line
 abbrev pub newline : List ℕ

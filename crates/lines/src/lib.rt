@@ -1,5 +1,4 @@
 // The lines that `fillin` writes, as bytes of text in a lent buffer.
-mod text;
 mod whole;
 
 pub use whole::MOST_LINE;

@@ -1,12 +1,12 @@
 // The five lines of document 01, each from the front of the buffer; the answer is the line's length.
-use crate::text::put;
-use crate::text::put_field;
-use crate::text::put_output;
+use text::put;
+use text::put_field;
+use text::put_output;
 ghost use mathlib.Core.Path.{_≡_};
 ghost use Prim.Native.Nat.{_≤_};
 ghost use mathlib.Core.List.{_++_};
 ghost use lib.ListN.{length};
-ghost use Rattle.lines.specs.Text.{laid, field};
+ghost use Rattle.text.specs.Text.{laid, field};
 ghost use Rattle.lines.specs.Lines.{newline, layerLine, windowLine, refusedLine, stopLine, endLine};
 
 // The longest line: a window with sixteen outputs has 7 + 20 + 16 * 9 + 1 bytes at most.

@@ -12,7 +12,7 @@ use Rattle.numbers.specs.Steps.{nought}
 use Rattle.layouts.specs.Formats.{formatOf}
 use Rattle.sums.specs.Tree.{tree}
 use Rattle.sums.specs.Rows.{chunkAt}
-use Rattle.fused.specs.Terms.{terms}
+use Rattle.fused_chunks.specs.Terms.{terms}
 use Rattle.stepped_shape.specs.declared.shape.Layer.{Layer}
 use Rattle.stepped_shape.specs.Layer.{chunks, pieces, place, rowOf, openOf}
 use Rattle.stepped_shape.specs.Refusals.{openNo, workNo, pieceNo, closeNo}

@@ -9,7 +9,7 @@ use lib.Seq.{length-take-le}
 use Rattle.records.specs.Found.{ended, layer, window, warmUp, refused, itemSays, foundAt, later}
 use Rattle.records.specs.Frame.{payloadAt}
 use Rattle.records.proofs.Read.{layer-read, window-read, warm-up-read}
-use Rattle.lines.specs.Text.{laid}
+use Rattle.text.specs.Text.{laid}
 use Rattle.filling.specs.Answers.{Response, respond}
 use Rattle.filling.proofs.Concluding.{replied-as, held, held-fits, weights-stay, concluded}
 use Rattle.filling.proofs.answers.answer.Statement.{statement}

@@ -6,7 +6,7 @@ use lib.ListN.{length, take}
 use lib.Seq.{take-at}
 use Rattle.refusals.proofs.Laws.{never-refused}
 use Rattle.memory.proofs.Filled.{length-table}
-use Rattle.lines.specs.Text.{laid}
+use Rattle.text.specs.Text.{laid}
 use Rattle.lines.specs.Lines.{windowLine}
 use Rattle.filling.specs.Answers.{windowNumber, readingsIn, outputsOf}
 use Rattle.filling.proofs.Holding.{workable}

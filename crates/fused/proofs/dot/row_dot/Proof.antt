@@ -4,7 +4,7 @@ use Prim.Native.Nat.{_-_}
 use lib.Seq.{length-take-le}
 use Rattle.sums.specs.Rows.{chunksIn}
 use Rattle.sums.proofs.RowLaws.{Chunking, chunking-start, chunking-more, chunking-met}
-use Rattle.fused.specs.Terms.{terms}
+use Rattle.fused_chunks.specs.Terms.{terms}
 use native.Mathlib.Omega.{arith}
 use Rattle.fused.proofs.dot.row_dot.Statement.{statement}
 use Rattle.fused.proofs.dot.row_dot.Tie as tie

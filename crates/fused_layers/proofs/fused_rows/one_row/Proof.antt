@@ -11,7 +11,7 @@ use Rattle.refusals.proofs.Laws.{value-of, no-refusal}
 use Rattle.memory.proofs.Filled.{Filling, filling-start, filling-more, filling-done, part-length}
 use Rattle.memory.proofs.Parts.{within, lent-part}
 use Rattle.sums.specs.Rows.{rowSum}
-use Rattle.fused.specs.Terms.{terms}
+use Rattle.fused_chunks.specs.Terms.{terms}
 use Rattle.shapes.specs.Shapes.{rowBytes}
 use Rattle.shapes.proofs.Fits.{row-small}
 use Rattle.fused_layers.specs.Says.{fusedDotAt}

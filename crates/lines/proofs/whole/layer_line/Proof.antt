@@ -3,8 +3,8 @@ use mathlib.Core.List.{[], _∷_, append-assoc}
 use denote.Ref.{now}
 use native.Mathlib.Omega.{arith}
 use Rattle.lines.specs.Lines.{newline, layerLine}
-use Rattle.lines.specs.Text.{field}
-use Rattle.lines.proofs.Laid.{Written, first, next, named}
+use Rattle.text.specs.Text.{field}
+use Rattle.text.proofs.Laid.{Written, first, next, named}
 use borrow.Author.Needs.{needs}
 use Rattle.lines.proofs.whole.layer_line.Statement.{statement}
 use Rattle.lines.proofs.whole.layer_line.Tie as tie

@@ -5,9 +5,9 @@ use native.Mathlib.Omega.{arith}
 use denote.Ref.{now}
 use mathlib.Core.List.{[], _∷_, append-assoc}
 use lib.ListN.{length}
-use Rattle.lines.specs.Text.{field}
+use Rattle.text.specs.Text.{field}
 use Rattle.lines.specs.Lines.{newline, windowHead, outputFields, windowLine}
-use Rattle.lines.proofs.Laid.{Written, first, next, named}
+use Rattle.text.proofs.Laid.{Written, first, next, named}
 use Rattle.lines.proofs.Outputs.{Shown, shown-none, shown-more, shown-all}
 use Rattle.lines.proofs.whole.window_line.Statement.{statement}
 use Rattle.lines.proofs.whole.window_line.Tie as tie

@@ -1,0 +1,6 @@
+// One block, decoded: its values as floats.
+mod k;
+mod of32;
+
+pub use k::decode_k;
+pub use of32::decode_32;

@@ -1,0 +1,4 @@
+// A row of weights, decoded.
+mod decoded_row;
+
+pub use decoded_row::decode_row;

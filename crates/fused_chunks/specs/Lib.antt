@@ -1,0 +1,2 @@
+-- The terms of the fused dots.
+pub mod Terms

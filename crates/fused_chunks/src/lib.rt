@@ -1,0 +1,6 @@
+// The fused dot of one chunk: packed weights are decoded and multiplied a block at a time, so that no decoded row is held.
+mod chunk;
+mod q4k;
+mod q6k;
+
+pub use chunk::chunk_dot;

@@ -1,0 +1,3 @@
+-- What several proofs of `k_layouts` share.
+pub mod Scales
+pub mod Eight

@@ -1,0 +1,129 @@
+// The whole numbers and the scales of the K formats, 256 values to a block.
+use layouts::FormatK;
+use layouts::less;
+ghost use mathlib.Core.Path.{_≡_};
+ghost use Prim.Native.Nat.{_+_, _*_, _/_, _%_, _<_};
+ghost use lib.IntN.{pos, _-ℤ_};
+ghost use lib.ListN.{length};
+ghost use lib.Ieee.{binary32, mul, ofInt};
+ghost use Rattle.memory.specs.Lists.{table};
+ghost use Rattle.layouts.specs.K.{scaleQ4K, minimumQ4K, quantQ4K, quantQ6K, scaleQ6K, dOf, dminOf};
+
+// The scale of Q4_K's sub-block j, six bits.
+pub fn scale_q4k(block: &[u8], j: usize) -> u8
+    requires { ⌜ (length (now block) ≡ 144) × (j < 8) ⌝ }
+    ensures { λ r. ⌜ (r ≡ scaleQ4K (now (block .entry)) j) × (r < 64) ⌝ }
+{
+    if j < 4 {
+        block[4 + j] % 64
+    } else {
+        block[8 + j] % 16 + 16 * (block[j] / 64)
+    }
+}
+
+// The minimum of Q4_K's sub-block j, six bits.
+pub fn minimum_q4k(block: &[u8], j: usize) -> u8
+    requires { ⌜ (length (now block) ≡ 144) × (j < 8) ⌝ }
+    ensures { λ r. ⌜ (r ≡ minimumQ4K (now (block .entry)) j) × (r < 64) ⌝ }
+{
+    if j < 4 {
+        block[8 + j] % 64
+    } else {
+        block[8 + j] / 16 + 16 * (block[4 + j] / 64)
+    }
+}
+
+// Q4_K's eight products d*scale.
+pub fn scales_q4k(block: &[u8]) -> [f32; 8]
+    requires { ⌜ length (now block) ≡ 144 ⌝ }
+    ensures { λ r. ⌜ r ≡ table (λ j. mul binary32 (dOf FormatK.Q4K (now (block .entry))) (ofInt binary32 (pos (scaleQ4K (now (block .entry)) j)))) 8 ⌝ }
+{
+    let d = halves::f16_to_f32(numbers::le_u16(block[0], block[1]));
+    let mut s = [0.0f32; 8];
+    for j in 0..8usize {
+        s[j] = d * scale_q4k(block, j) as f32;
+    }
+    s
+}
+
+// Q4_K's eight products dmin*minimum.
+pub fn minimums_q4k(block: &[u8]) -> [f32; 8]
+    requires { ⌜ length (now block) ≡ 144 ⌝ }
+    ensures { λ r. ⌜ r ≡ table (λ j. mul binary32 (dminOf (now (block .entry))) (ofInt binary32 (pos (minimumQ4K (now (block .entry)) j)))) 8 ⌝ }
+{
+    let dmin = halves::f16_to_f32(numbers::le_u16(block[2], block[3]));
+    let mut m = [0.0f32; 8];
+    for j in 0..8usize {
+        m[j] = dmin * minimum_q4k(block, j) as f32;
+    }
+    m
+}
+
+// Q4_K's 256 whole numbers, one of each sub-block a turn: eight streams, which are vectors.
+pub fn quants_q4k(block: &[u8]) -> [u8; 256]
+    requires { ⌜ length (now block) ≡ 144 ⌝ }
+    ensures { λ r. ⌜ r ≡ table (quantQ4K (now (block .entry))) 256 ⌝ }
+{
+    let mut q = [0u8; 256];
+    for l in 0..32usize {
+        let a = block[16 + l];
+        let b = block[48 + l];
+        let c = block[80 + l];
+        let d = block[112 + l];
+        q[l] = a % 16;
+        q[32 + l] = a / 16;
+        q[64 + l] = b % 16;
+        q[96 + l] = b / 16;
+        q[128 + l] = c % 16;
+        q[160 + l] = c / 16;
+        q[192 + l] = d % 16;
+        q[224 + l] = d / 16;
+    }
+    q
+}
+
+// A nibble with a bit pair above it, less 32.
+fn six_bits(nibble: u8, pair: u8) -> i8
+    requires { ⌜ (nibble < 16) × (pair < 4) ⌝ }
+    ensures { λ r. ⌜ r ≡ pos (nibble + 16 * pair) -ℤ pos 32 ⌝ }
+{
+    less(nibble + 16 * pair, 32)
+}
+
+// Q6_K's 256 whole numbers, four of each half a turn.
+pub fn quants_q6k(block: &[u8]) -> [i8; 256]
+    requires { ⌜ length (now block) ≡ 210 ⌝ }
+    ensures { λ r. ⌜ r ≡ table (quantQ6K (now (block .entry))) 256 ⌝ }
+{
+    let mut q = [0i8; 256];
+    for l in 0..32usize {
+        let a = block[l];
+        let b = block[32 + l];
+        let c = block[64 + l];
+        let d = block[96 + l];
+        let h = block[128 + l];
+        let g = block[160 + l];
+        q[l] = six_bits(a % 16, h % 4);
+        q[32 + l] = six_bits(b % 16, h / 4 % 4);
+        q[64 + l] = six_bits(a / 16, h / 16 % 4);
+        q[96 + l] = six_bits(b / 16, h / 64 % 4);
+        q[128 + l] = six_bits(c % 16, g % 4);
+        q[160 + l] = six_bits(d % 16, g / 4 % 4);
+        q[192 + l] = six_bits(c / 16, g / 16 % 4);
+        q[224 + l] = six_bits(d / 16, g / 64 % 4);
+    }
+    q
+}
+
+// Q6_K's sixteen products d*scale, one for each run of 16.
+pub fn scales_q6k(block: &[u8]) -> [f32; 16]
+    requires { ⌜ length (now block) ≡ 210 ⌝ }
+    ensures { λ r. ⌜ r ≡ table (λ e. mul binary32 (dOf FormatK.Q6K (now (block .entry))) (ofInt binary32 (scaleQ6K (now (block .entry)) (16 * e)))) 16 ⌝ }
+{
+    let d = halves::f16_to_f32(numbers::le_u16(block[208], block[209]));
+    let mut s = [0.0f32; 16];
+    for e in 0..16usize {
+        s[e] = d * numbers::signed_byte(block[192 + e]) as f32;
+    }
+    s
+}

@@ -1,0 +1,2 @@
+-- Pieces of text.
+pub mod Text
