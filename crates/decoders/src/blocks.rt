@@ -8,7 +8,7 @@ use layouts::block_bytes;
 use layouts::block_values;
 use refusals::Outcome;
 ghost use mathlib.Core.Path.{_≡_};
-ghost use Prim.Native.Nat.{_≤_, _<_};
+ghost use Prim.Native.Nat.{_≤_};
 ghost use lib.ListN.{length};
 ghost use Rattle.refusals.specs.Said.{outcomeSays};
 ghost use Rattle.memory.specs.Lists.{table, filled};

@@ -1,25 +1,13 @@
 // Activation blocks, and the integer dots over them.
-use activations::Q8Block;
+use handed::block_in;
 use handed::lay_out;
+use handed::lay_out_block;
 ghost use mathlib.Core.Path.{_≡_};
 ghost use Rattle.activations.specs.Blocks.{quantized};
 ghost use Rattle.integer_dots.specs.Dots.{dotQ4kSays, dotQ6kSays};
 ghost use Rattle.integer_dots.specs.Rows.{integerSays};
 ghost use Rattle.handed.specs.Answers.{laidOut};
-ghost use Rattle.exports.specs.Blocks.{blockIn, blockLaidOut};
-
-// The block of three places that C lends.
-fn block_in(d: f32, qs: &[i8; 256], bsums: &[i32; 8]) -> Q8Block
-    ensures { λ r. ⌜ r ≡ blockIn d (now (qs .entry)) (now (bsums .entry)) ⌝ }
-{
-    let quants = *qs;
-    let sums = *bsums;
-    Q8Block {
-        d,
-        qs: quants,
-        bsums: sums,
-    }
-}
+ghost use Rattle.handed.specs.Blocks.{blockIn, blockLaidOut};
 
 #[no_mangle]
 pub extern "C" fn jambharrow_quantize_block_q8(
@@ -30,18 +18,7 @@ pub extern "C" fn jambharrow_quantize_block_q8(
 ) -> u32
     ensures { λ r. ⌜ (r, blockIn (now (d .exit)) (now (qs .exit)) (now (bsums .exit))) ≡ blockLaidOut (quantized (now (x .entry))) (blockIn (now (d .entry)) (now (qs .entry)) (now (bsums .entry))) ⌝ }
 {
-    let made = activations::quantize_block_q8(x);
-    let no = made.no;
-    if no != 0 {
-        return no;
-    }
-    let block = made.block;
-    let quants = block.qs;
-    let sums = block.bsums;
-    *d = block.d;
-    *qs = quants;
-    *bsums = sums;
-    0
+    lay_out_block(activations::quantize_block_q8(x), d, qs, bsums)
 }
 
 #[no_mangle]

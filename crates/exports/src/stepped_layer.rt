@@ -4,7 +4,8 @@ use handed::number_of;
 use stepped_shape::Layer;
 ghost use mathlib.Core.Path.{_≡_};
 ghost use Rattle.stepped_shape.specs.Layer.{layerOf};
-ghost use Rattle.stepped.specs.Says.{openSays, pieceSays, runSays, closeSays};
+ghost use Rattle.stepped_pieces.specs.Pieces.{pieceSays};
+ghost use Rattle.stepped.specs.Says.{openSays, runSays, closeSays};
 ghost use Rattle.handed.specs.Answers.{numbered};
 ghost use Rattle.handed.specs.Counts.{runLaidOut};
 
@@ -45,7 +46,7 @@ pub extern "C" fn jambharrow_piece(
         in_feat,
         out_feat,
     };
-    number_of(stepped::piece(layer, w, x, row, chunk, slots, marks))
+    number_of(stepped_pieces::piece(layer, w, x, row, chunk, slots, marks))
 }
 
 #[no_mangle]

@@ -1,5 +1,4 @@
--- What `fillin` answers: a window's outputs through the stepped layer, what is held from record to record, and that answering record by record gives the transcript of the whole input.
-pub mod Rows
+-- What `fillin` answers: what is held from record to record, and that answering record by record gives the transcript of the whole input.
 pub mod Replies
 pub mod Begun
 pub mod Holding

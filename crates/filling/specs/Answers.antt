@@ -10,8 +10,8 @@ use Rattle.stepped_shape.specs.declared.shape.Layer.{Layer}
 use Rattle.stepped_shape.specs.Layer.{layerOf}
 use Rattle.stepped.specs.History.{inOneGo}
 use Rattle.records.specs.Frame.{payloadAt}
-use Rattle.records.specs.Kinds.{readingAt}
 use Rattle.records.specs.Found.{Found, ended, layer, window, warmUp, refused, foundAt, later}
+use Rattle.window_outputs.specs.Windows.{readingsIn}
 use Rattle.text.specs.Text.{laid}
 use Rattle.lines.specs.Lines.{layerLine, windowLine, refusedLine, stopLine, endLine}
 use Rattle.filling.specs.declared.state.State.{State}
@@ -27,10 +27,6 @@ pub record Response : Type 0 where
 -- the window's number, from 1 over the whole input
 abbrev pub windowNumber : State → ℕ
 windowNumber st = st .answered + st .refused + 1
-
--- a window's readings
-abbrev pub readingsIn : List ℕ → Layer → List Float
-readingsIn p l = table (readingAt p) (l .«in_feat»)
 
 -- the outputs of a layer: for each row, the fixed-order dot of the readings and the row decoded, which is the fused float dot
 abbrev pub outputsOf : Layer → List ℕ → List Float → List Float

@@ -1,10 +1,10 @@
 // The answer to one record.
-use crate::outputs::window_outputs;
 use crate::state::Reply;
 use crate::state::State;
 use records::Item;
 use refusals::Outcome;
 use stepped_shape::Layer;
+use window_outputs::window_outputs;
 ghost use mathlib.Core.Path.{_≡_};
 ghost use Prim.Native.Nat.{_+_, _*_, _^_, _≤_, _<_};
 ghost use mathlib.Core.List.{[]};

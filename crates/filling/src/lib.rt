@@ -1,6 +1,5 @@
 // What `fillin` answers to one record: the text of its line in a lent buffer, and what is kept for the next record.
 mod answers;
-mod outputs;
 mod state;
 
 pub use answers::answer;

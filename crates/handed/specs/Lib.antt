@@ -1,3 +1,4 @@
 -- How C is handed what a call says.
 pub mod Answers
 pub mod Counts
+pub mod Blocks

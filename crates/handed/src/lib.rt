@@ -1,7 +1,10 @@
-// How an answer is handed to C: its number is returned, and its value, or its counts, go through pointers.
+// How an answer is handed to C: its number is returned, and its value, its counts or its block go through pointers.
 mod answers;
+mod blocks;
 mod counts;
 
 pub use answers::lay_out;
 pub use answers::number_of;
+pub use blocks::block_in;
+pub use blocks::lay_out_block;
 pub use counts::lay_out_counts;

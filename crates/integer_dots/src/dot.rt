@@ -1,10 +1,10 @@
 // The dot of one packed block and one activation block.
-use activations::Q8Block;
-use activations::sums_right;
 use crate::whole::cut;
 use crate::whole::minimum_sum;
 use crate::whole::whole_q4k;
 use crate::whole::whole_q6k;
+use activations::Q8Block;
+use activations::sums_right;
 use layouts::FormatK;
 use refusals::Answer;
 ghost use mathlib.Core.Path.{_≡_};

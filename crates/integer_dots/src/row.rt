@@ -1,7 +1,7 @@
 // The dot of a row of packed blocks and readings, in whole numbers block by block.
-use activations::quantized_block;
 use crate::dot::Q4K_BYTES;
 use crate::dot::block_dot_q4k;
+use activations::quantized_block;
 use layouts::FormatK;
 use refusals::Answer;
 ghost use mathlib.Core.Path.{_≡_};

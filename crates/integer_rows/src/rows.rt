@@ -66,14 +66,7 @@ fn all_rows(
 }
 
 // Rows of at most 16 blocks: to clear room for 512 takes longer than such a row's dot.
-pub fn rows_of_16(
-    format: FormatK,
-    meeting: Meeting,
-    x: &[f32],
-    w: &[u8],
-    y: &mut [f32],
-    s: Shape,
-)
+pub fn rows_of_16(format: FormatK, meeting: Meeting, x: &[f32], w: &[u8], y: &mut [f32], s: Shape)
     requires { ⌜ (layerNo format s (length (now x)) (length (now w)) (length (now y)) ≡ 0) × (s .«in_feat» ≤ 4096) ⌝ }
     ensures { λ _. ⌜ now (y .exit) ≡ integerOutputs format meeting s (now (x .entry)) (now (w .entry)) (now (y .entry)) ⌝ }
 {
@@ -97,14 +90,7 @@ pub fn rows_of_16(
 }
 
 // Rows of at most 512 blocks, which is every row.
-pub fn rows_of_512(
-    format: FormatK,
-    meeting: Meeting,
-    x: &[f32],
-    w: &[u8],
-    y: &mut [f32],
-    s: Shape,
-)
+pub fn rows_of_512(format: FormatK, meeting: Meeting, x: &[f32], w: &[u8], y: &mut [f32], s: Shape)
     requires { ⌜ layerNo format s (length (now x)) (length (now w)) (length (now y)) ≡ 0 ⌝ }
     ensures { λ _. ⌜ now (y .exit) ≡ integerOutputs format meeting s (now (x .entry)) (now (w .entry)) (now (y .entry)) ⌝ }
 {

@@ -4,7 +4,7 @@ use crate::target::Target;
 use crate::target::block_size;
 use refusals::Outcome;
 ghost use mathlib.Core.Path.{_≡_};
-ghost use Prim.Native.Nat.{_%_, _≤_};
+ghost use Prim.Native.Nat.{_≤_};
 ghost use lib.ListN.{length};
 ghost use Rattle.refusals.specs.Said.{outcomeSays};
 ghost use Rattle.memory.specs.Lists.{filled};

@@ -1,7 +1,6 @@
 // The largest magnitude of readings, and the first reading that has it.
 use numbers::magnitude_of;
 ghost use mathlib.Core.Path.{_≡_};
-ghost use Prim.Native.Nat.{_<_};
 ghost use mathlib.Core.Bool.{cond, not, _&&_};
 ghost use lib.ListN.{length};
 ghost use lib.Ieee.{lt};

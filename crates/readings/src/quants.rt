@@ -7,7 +7,7 @@ ghost use mathlib.Core.Bool.{true, cond};
 ghost use mathlib.Core.Logic.{_⊎_};
 ghost use lib.IntN.{pos};
 ghost use lib.Ieee.{binary32, ofBits, lt, sub};
-ghost use Rattle.numbers.specs.Steps.{nought, magnitude, truncated};
+ghost use Rattle.numbers.specs.Steps.{nought, truncated};
 ghost use Rattle.readings.specs.Readings.{inverse, held, quantQ8, quantQ40};
 
 // The smaller of the two; b where a is a NaN.

@@ -32,7 +32,7 @@ fn pieces_accepted(
     while k < count {
         let row = u32_at(named, 8 * k) as usize;
         let chunk = u32_at(named, 8 * k + 4) as usize;
-        if !says(stepped::piece(l, w, x, row, chunk, slots, marks), 0) {
+        if !says(stepped_pieces::piece(l, w, x, row, chunk, slots, marks), 0) {
             return false;
         }
         k += 1;

@@ -14,7 +14,8 @@ use Rattle.stepped_shape.specs.Layer.{chunks, pieces, place, openCount, openOf}
 use Rattle.stepped_shape.specs.Refusals.{workNo}
 use Rattle.stepped_shape.proofs.Shapes.{workable}
 use Rattle.stepped_shape.proofs.Marks.{open-more, open-set-take}
-use Rattle.stepped.specs.Says.{Work, work, marksOf, worked, marked, visit, visitRow, visitRows, runWork, ran, runSays}
+use Rattle.stepped_pieces.specs.Pieces.{worked, marked}
+use Rattle.stepped.specs.Says.{Work, work, marksOf, visit, visitRow, visitRows, runWork, ran, runSays}
 use Rattle.stepped.proofs.Answers.{ran-done}
 use Rattle.stepped.proofs.Runs.{visit-open, visit-done, visit-over}
 

@@ -25,7 +25,8 @@ use Rattle.stepped_shape.specs.Refusals.{openNo, workNo, pieceNo, closeNo}
 use Rattle.stepped_shape.specs.Ready.{InLayer}
 use Rattle.stepped_shape.proofs.Shapes.{place-within, row-within, openable, pieceable, closable}
 use Rattle.stepped_shape.proofs.Marks.{open-append, open-set-take, none-open}
-use Rattle.stepped.specs.Says.{noSum, noMark, Work, work, slotsOf, marksOf, sumAt, worked, marked, visit, visitRow, visitRows, runWork, openSays, pieceSays, runSays, rowMet, closeSays}
+use Rattle.stepped_pieces.specs.Pieces.{sumAt, worked, marked, pieceSays}
+use Rattle.stepped.specs.Says.{noSum, noMark, Work, work, slotsOf, marksOf, visit, visitRow, visitRows, runWork, openSays, runSays, rowMet, closeSays}
 use Rattle.stepped.specs.History.{decodedRow, inOneGo, Call, piece, run, close, State, call, calls, opened, Demand3}
 use Rattle.stepped.proofs.Answers.{ran-done, ran-refused}
 use Rattle.stepped.proofs.Runs.{visit-open, visit-done, visit-over}

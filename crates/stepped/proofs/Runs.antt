@@ -10,7 +10,8 @@ use lib.Ieee.{Float}
 use borrow.Author.Tests.{eq-eqb, ne-eqb, lt-ltb, le-ltb}
 use Rattle.stepped_shape.specs.declared.shape.Layer.{Layer}
 use Rattle.stepped_shape.specs.Layer.{chunks, place}
-use Rattle.stepped.specs.Says.{Work, work, worked, marked, visit, visitRow, visitRows}
+use Rattle.stepped_pieces.specs.Pieces.{worked, marked}
+use Rattle.stepped.specs.Says.{Work, work, visit, visitRow, visitRows}
 
 -- what the loops keep: both lists' lengths, at most the budget, and the state that the visits so far give
 pub record Kept (budget : ℕ) (slots₀ : List Float) (marks₀ : List ℕ) (slots : List Float) (marks : List ℕ) (done : ℕ) (k : Work) : Type 0 where

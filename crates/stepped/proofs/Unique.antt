@@ -9,7 +9,6 @@ use Rattle.stepped.specs.declared.running.Progress.{Progress}
 use Rattle.stepped.specs.declared.running.Progress.the-variants.{Ran, Refused}
 use Rattle.stepped.specs.Says.{RunSaid, progressSays}
 use Rattle.stepped.proofs.opening.open.Reads as opening
-use Rattle.stepped.proofs.pieces.piece.Reads as piece
 use Rattle.stepped.proofs.running.run.Reads as running
 use Rattle.stepped.proofs.closing.close.Reads as closing
 
@@ -22,9 +21,6 @@ one-progress (Refused num) (Refused other) e = cc
 
 pub open-once : OneCall {M = List Float × List ℕ} opening.Post (λ κs s. (now (s .1 .0), now (s .1 .1 .0)))
 open-once κs a x y s t h k = one-filled x y h k
-
-pub piece-once : OneCall {M = List Float × List ℕ} piece.Post (λ κs s. (now (s .1 .1 .1 .1 .1 .0), now (s .1 .1 .1 .1 .1 .1 .0)))
-piece-once κs a x y s t h k = one-filled x y h k
 
 pub run-once : OneCall {M = List Float × List ℕ} running.Post (λ κs s. (now (s .1 .1 .1 .1 .0), now (s .1 .1 .1 .1 .1 .0)))
 run-once κs a x y s t h k =

@@ -1,4 +1,4 @@
--- What the four calls say and what lent memory holds then: functions of the layer, its weights and readings, and the lists that came in. Definitions only.
+-- What `open`, `run` and `close` say and what lent memory holds then: functions of the layer, its weights and readings, and the lists that came in. Definitions only.
 use Prim.Native.Nat.{ℕ, zero, suc, _+_, min}
 use mathlib.Core.Bool.{_&&_, cond}
 use mathlib.Core.List.{List}
@@ -9,13 +9,11 @@ use Rattle.refusals.specs.Said.{Said}
 use Rattle.refusals.specs.Refusals.{carriedOut}
 use Rattle.memory.specs.Lists.{table, filled}
 use Rattle.numbers.specs.Steps.{nought}
-use Rattle.layouts.specs.Formats.{formatOf}
 use Rattle.sums.specs.Tree.{tree}
-use Rattle.sums.specs.Rows.{chunkAt}
-use Rattle.fused_chunks.specs.Terms.{terms}
 use Rattle.stepped_shape.specs.declared.shape.Layer.{Layer}
-use Rattle.stepped_shape.specs.Layer.{chunks, pieces, place, rowOf, openOf}
-use Rattle.stepped_shape.specs.Refusals.{openNo, workNo, pieceNo, closeNo}
+use Rattle.stepped_shape.specs.Layer.{chunks, pieces, place, openOf}
+use Rattle.stepped_shape.specs.Refusals.{openNo, workNo, closeNo}
+use Rattle.stepped_pieces.specs.Pieces.{worked, marked}
 use Rattle.stepped.specs.declared.running.Progress.{Progress}
 use Rattle.stepped.specs.declared.running.Progress.the-variants as progress
 
@@ -33,25 +31,6 @@ noMark i = 0
 unfoldable pub openSays : Layer → List Float → List ℕ → Said × (List Float × List ℕ)
 openSays l slots marks =
     carriedOut (openNo l (length slots) (length marks)) (filled noSum slots (pieces l), filled noMark marks (pieces l)) (slots, marks)
-
--- ---- a piece writes its own slot and sets its mark to 1, nothing else
-
--- the chunk sum of that row's decoded weights and the readings over the places of this chunk alone
-unfoldable pub sumAt : Layer → List ℕ → List Float → (row c : ℕ) → Float
-sumAt l w x row c = chunkAt (terms (formatOf (l .format)) x (rowOf l w row)) (l .«in_feat») c
-
--- its own slot
-abbrev pub worked : Layer → List ℕ → List Float → (row c : ℕ) → List Float → List Float
-worked l w x row c slots = set slots (place l row c) (sumAt l w x row c)
-
--- its mark
-abbrev pub marked : Layer → (row c : ℕ) → List ℕ → List ℕ
-marked l row c marks = set marks (place l row c) 1
-
--- `piece`
-unfoldable pub pieceSays : Layer → List ℕ → List Float → (row c : ℕ) → List Float → List ℕ → Said × (List Float × List ℕ)
-pieceSays l w x row c slots marks =
-    carriedOut (pieceNo l (length w) (length x) (length slots) marks row c) (worked l w x row c slots, marked l row c marks) (slots, marks)
 
 -- ---- run does the next open pieces in row order, chunks rising, at most as many as its budget
 

@@ -1,5 +1,5 @@
 // Run: the next open pieces, as many as a budget allows.
-use crate::pieces::work_one;
+use stepped_pieces::work_one;
 use stepped_shape::Layer;
 use stepped_shape::chunks_of;
 use stepped_shape::count_open;

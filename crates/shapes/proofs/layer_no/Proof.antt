@@ -5,7 +5,7 @@ use native.Mathlib.Omega.{arith}
 use borrow.Author.Needs.{needs}
 use borrow.Author.Tests.{lt-ltb, le-ltb, eq-eqb, ne-eqb}
 use Rattle.refusals.specs.Refusals.{given}
-use Rattle.shapes.specs.Shapes.{oversize, layerNo}
+use Rattle.shapes.specs.Shapes.{layerNo}
 use Rattle.shapes.proofs.Fits.{InSizes, in-sizes, row-small, product-small}
 use Rattle.shapes.proofs.layer_no.Statement.{statement}
 use Rattle.shapes.proofs.layer_no.Tie as tie

@@ -8,7 +8,8 @@ use Rattle.refusals.proofs.Laws.{never-refused}
 use Rattle.memory.proofs.Filled.{length-table}
 use Rattle.text.specs.Text.{laid}
 use Rattle.lines.specs.Lines.{windowLine}
-use Rattle.filling.specs.Answers.{windowNumber, readingsIn, outputsOf}
+use Rattle.window_outputs.specs.Windows.{readingsIn}
+use Rattle.filling.specs.Answers.{windowNumber, outputsOf}
 use Rattle.filling.proofs.Holding.{workable}
 use Rattle.filling.proofs.Replies.{same-state}
 use Rattle.filling.proofs.answers.answer_window.Statement.{statement}

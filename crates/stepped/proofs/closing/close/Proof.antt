@@ -8,7 +8,7 @@ use denote.Ref.{now}
 use Rattle.stepped_shape.specs.Refusals.{closeNo}
 use Rattle.stepped_shape.proofs.Shapes.{closable}
 use Rattle.stepped.specs.Says.{closeSays}
-use Rattle.stepped.proofs.Answers.{says-refused, says-done}
+use Rattle.stepped_shape.proofs.Answers.{says-refused, says-done}
 use Rattle.stepped.proofs.closing.close.Statement.{statement}
 use Rattle.stepped.proofs.closing.close.Tie as tie
 

@@ -10,7 +10,7 @@ use Rattle.stepped_shape.specs.Refusals.{openNo}
 use Rattle.stepped_shape.proofs.Shapes.{openable}
 use Rattle.stepped.specs.Says.{noSum, noMark, openSays}
 use Rattle.stepped.proofs.Lists.{front-filled}
-use Rattle.stepped.proofs.Answers.{says-refused, says-done}
+use Rattle.stepped_shape.proofs.Answers.{says-refused, says-done}
 use Rattle.stepped.proofs.opening.open.Statement.{statement}
 use Rattle.stepped.proofs.opening.open.Tie as tie
 

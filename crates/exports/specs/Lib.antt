@@ -1,2 +1,0 @@
--- How C lends an activation block.
-pub mod Blocks

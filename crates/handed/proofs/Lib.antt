@@ -1,0 +1,2 @@
+-- What the proofs of `handed` share.
+pub mod MadeBlock

@@ -1,0 +1,2 @@
+-- One answer for `piece`.
+pub mod Unique

@@ -1,0 +1,2 @@
+-- What `piece` says.
+pub mod Pieces

@@ -1,0 +1,2 @@
+-- What a window holds.
+pub mod Windows
