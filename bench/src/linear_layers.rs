@@ -144,8 +144,9 @@ fn row(
     );
     let y = vec![0.0; out_feat];
     let (their_x, their_w, mut their_y, mut y) = (x.clone(), w.clone(), y.clone(), y);
+    let rows = if out_feat == 1 { "row" } else { "rows" };
     Row {
-        input: format!("{out_feat} rows of {in_feat}"),
+        input: format!("{out_feat} {rows} of {in_feat}"),
         size,
         values: out_feat * in_feat,
         calls: 1,
