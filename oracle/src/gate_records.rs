@@ -1,7 +1,7 @@
 //! The record files that the programs of the gate are run on, and what they are to print.
 use crate::record_cases;
 use crate::record_files::{transcript, MOST_IN_FEAT, MOST_OUT_FEAT};
-use crate::record_makers::{example, layer_of, readings, warm_up_readings, window, FORMATS};
+use crate::record_makers::{example, layer_of, readings, record, warm_up_readings, window, FORMATS};
 use crate::sample::count;
 use oracle::inputs::{reading, trained_scale};
 use oracle::random::Random;
@@ -9,9 +9,12 @@ use std::fs;
 use std::io;
 use std::path::Path;
 
-/// In the container of cases, the bit of a length that says: the file is answered at each of its
-/// cuts.
-const EACH_CUT: u32 = 0x8000_0000;
+/// In the container of cases, how a file is answered: as it is, at each of its cuts, in pieces of at
+/// most 1 to 7 bytes, and a thousand times, one behind the other.
+const AS_IT_IS: u8 = 0;
+const AT_EACH_CUT: u8 = 1;
+const IN_PIECES: u8 = 2;
+const A_THOUSAND: u8 = 3;
 
 /// Writes all of them, and document 01's example beside the crates too.
 pub fn write() -> io::Result<()> {
@@ -79,32 +82,70 @@ fn largest() -> Vec<u8> {
     file
 }
 
-/// The container: each file of the cases as a little-endian u32 length and its bytes, and behind
-/// them document 01's example, to be answered at each of its cuts. For each file, and for each cut,
-/// a line says its number, from 1, and its transcript follows.
-fn cases() -> (Vec<u8>, String) {
-    let mut container = Vec::new();
-    let mut text = String::new();
-    let mut files = 0;
-    let mut answer = |file: &[u8]| {
-        files += 1;
+/// The container, and what is to be printed of it: for each answer a line with its number, from 1,
+/// its transcript, and a line with the status of a program that ends so.
+struct Container {
+    bytes: Vec<u8>,
+    text: String,
+    answers: usize,
+}
+
+impl Container {
+    /// A file that is to be answered so.
+    fn hold(&mut self, way: u8, file: &[u8]) {
+        self.bytes.push(way);
+        self.bytes.extend(count(file.len()));
+        self.bytes.extend(file);
+    }
+
+    /// The answer to a file: its transcript.
+    fn answer(&mut self, file: &[u8]) -> String {
         let transcript = transcript(file).text;
-        text += &format!("file {files}\n{transcript}");
+        let status = match transcript.lines().last() {
+            Some(line) if line.starts_with("end ") => 0,
+            _ => 1,
+        };
+        self.say(&transcript, status);
         transcript
+    }
+
+    fn say(&mut self, transcript: &str, status: u32) {
+        self.answers += 1;
+        let number = self.answers;
+        self.text += &format!("file {number}\n{transcript}status {status}\n");
+    }
+}
+
+/// Every case; document 01's example at each of its cuts; files in pieces, which end with `end`, with
+/// a record of unknown kind that others follow, and with a cut record; and a thousand layers with a window each. Behind the
+/// container's files come an input that cannot be read and an output that cannot be written.
+fn cases() -> (Vec<u8>, String) {
+    let mut container = Container {
+        bytes: Vec::new(),
+        text: String::new(),
+        answers: 0,
     };
     for case in record_cases::all() {
-        container.extend(count(case.file.len()));
-        container.extend(&case.file);
-        let transcript = answer(&case.file);
+        container.hold(AS_IT_IS, &case.file);
+        let transcript = container.answer(&case.file);
         let last = transcript.lines().last();
         assert_eq!(last, Some(&case.last[..]), "{:02X?}", case.file);
     }
-    let cut = example();
-    let length = cut.len() as u32 | EACH_CUT;
-    container.extend(length.to_le_bytes());
-    container.extend(&cut);
-    for end in 0..=cut.len() {
-        answer(&cut[..end]);
+    let example = example();
+    container.hold(AT_EACH_CUT, &example);
+    for end in 0..=example.len() {
+        container.answer(&example[..end]);
     }
-    (container, text)
+    let unknown = [&example[..], &record(3, &[]), &example].concat();
+    for file in [example.clone(), unknown, example[..2_000].to_vec()] {
+        container.hold(IN_PIECES, &file);
+        for _ in 1..=7 {
+            container.answer(&file);
+        }
+    }
+    container.hold(A_THOUSAND, &example);
+    container.answer(&example.repeat(1_000));
+    container.say("", 2);
+    container.say("", 2);
+    (container.bytes, container.text)
 }

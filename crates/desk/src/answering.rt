@@ -1,66 +1,135 @@
 // One record after the other: it is read, answered, and its line is written.
-use crate::input::read_record;
+use crate::input::Desk;
+use crate::input::ROOM;
+use crate::input::nothing_read;
+use crate::input::read_on;
 use crate::progress::Progress;
+use filling::State;
 use libc::STDERR_FILENO;
-use libc::STDOUT_FILENO;
-ghost use Prim.Native.Nat.{_≤_};
+use records::Next;
+ghost use Prim.Native.Nat.{_≤_, _<_};
 ghost use lib.ListN.{length};
+ghost use Rattle.filling.specs.Kept.{Ready};
+ghost use Rattle.desk.specs.Turns.{Kept};
 
-// A proved loop has to end, and nothing says that the input does: so many records are answered at most, 2^48. At a million a second they take nine years.
-const MOST_RECORDS: u64 = 281_474_976_710_656;
+// A proved loop has to end, and nothing says that the input does: so many turns are taken at most, 2^48, each of which reads once or answers a record. At a million a second they take nine years.
+const MOST_TURNS: u64 = 281_474_976_710_656;
 
-// Why no more records are answered.
-enum Ending {
-    // The line of the last one was `end` or `stop`.
-    Over,
+// How the answering ended.
+pub enum Ending {
+    // With the line `end`.
+    Ended,
+    // With the line `stop`.
+    Stopped,
+    // The input could not be read on, or a line not be written, or there were too many turns: the transcript has neither.
     Unreadable,
     Unwritable,
     TooMany,
 }
 
+impl Ending {
+    // By the first letter of the last line.
+    fn of_line(letter: u8) -> Self {
+        if letter == b'e' {
+            Ending::Ended
+        } else {
+            Ending::Stopped
+        }
+    }
+
+    // The status of a program that ends so: 0 for `end`, 1 for `stop`, 2 where the transcript has neither.
+    pub fn status(self) -> u64 {
+        match self {
+            Ending::Ended => 0,
+            Ending::Stopped => 1,
+            Ending::Unreadable => 2,
+            Ending::Unwritable => 2,
+            Ending::TooMany => 2,
+        }
+    }
+}
+
 // Says on standard error what went wrong, if anything did.
-fn finish(progress: Progress, ending: Ending) {
+fn finish(progress: Progress, ending: Ending) -> Ending {
     progress.end();
     match ending {
-        Ending::Over => {}
+        Ending::Ended => {}
+        Ending::Stopped => {}
         Ending::Unreadable => os::fail(b"fillin: standard input"),
         Ending::Unwritable => os::fail(b"fillin: standard output"),
         Ending::TooMany => {
             io::write_all(STDERR_FILENO, b"fillin: too many records\n");
         }
     }
+    ending
+}
+
+// Whether more records are answered.
+enum Course {
+    On,
+    Over(Ending),
+}
+
+// What is kept after a record, and whether it was the last one.
+struct Turn {
+    state: State,
+    course: Course,
+}
+
+// Answers one record and writes its line.
+fn answer_one(desk: Desk, st: State, record: &[u8], weights: &mut [u8], line: &mut [u8]) -> Turn
+    requires { ⌜ Ready st (length (now «record»)) (length (now weights)) (length (now line)) ⌝ }
+    ensures { λ r. ⌜ Kept st (length (now («record» .entry))) (r .state) ⌝ }
+{
+    let reply = filling::answer(st, record, weights, line);
+    let state = reply.state;
+    let length = reply.length;
+    let course = if !io::write_all(desk.output, &line[..length]) {
+        Course::Over(Ending::Unwritable)
+    } else if reply.over {
+        Course::Over(Ending::of_line(line[0]))
+    } else {
+        Course::On
+    };
+    Turn { state, course }
 }
 
 // Answers records until one ends the transcript, or reading or writing fails.
-fn answer_records(record: &mut [u8], weights: &mut [u8], line: &mut [u8])
-    requires { ⌜ (32772 ≤ length (now «record»)) × (26880 ≤ length (now weights)) × (172 ≤ length (now line)) ⌝ }
+fn answer_records(desk: Desk, buf: &mut [u8], weights: &mut [u8], line: &mut [u8]) -> Ending
+    requires { ⌜ (0 < desk .most) × (32772 ≤ length (now buf)) × (26880 ≤ length (now weights)) × (172 ≤ length (now line)) ⌝ }
 {
     let mut st = filling::start();
-    let mut progress = Progress::begin();
-    for _ in 0..MOST_RECORDS {
-        let input = read_record(record);
-        let bytes = input.bytes;
-        if input.failed {
-            return finish(progress, Ending::Unreadable);
+    let mut progress = Progress::begin(desk.output);
+    let mut unread = nothing_read();
+    for _ in 0..MOST_TURNS {
+        let from = unread.from;
+        let to = unread.to;
+        let Next::Bytes(size) = records::next_record(&buf[from..to], unread.ended) else {
+            unread = read_on(desk, buf, unread);
+            if unread.failed {
+                return finish(progress, Ending::Unreadable);
+            }
+            continue;
+        };
+        let end = from + size;
+        let turn = answer_one(desk, st, &buf[from..end], weights, line);
+        let course = turn.course;
+        if let Course::Over(ending) = course {
+            return finish(progress, ending);
         }
-        let reply = filling::answer(st, &record[..bytes], weights, line);
-        let length = reply.length;
-        if !io::write_all(STDOUT_FILENO, &line[..length]) {
-            return finish(progress, Ending::Unwritable);
-        }
-        if reply.over {
-            return finish(progress, Ending::Over);
-        }
-        st = reply.state;
+        st = turn.state;
+        unread.from = end;
         progress = progress.after(st.answered + st.refused);
     }
     finish(progress, Ending::TooMany)
 }
 
-// Reads records from standard input, and writes a line for each layer and window to standard output, and a last line that says how it ended.
-pub fn fill_in() {
-    let mut record = [0u8; records::MOST_RECORD];
+// Reads records, and writes a line for each layer and window, and a last line that says how it ended.
+pub fn fill_in(desk: Desk) -> Ending
+    requires { ⌜ 0 < desk .most ⌝ }
+{
+    let mut buf = [0u8; ROOM];
     let mut weights = [0u8; records::MOST_WEIGHTS];
     let mut line = [0u8; lines::MOST_LINE];
-    answer_records(&mut record, &mut weights, &mut line);
+    answer_records(desk, &mut buf, &mut weights, &mut line)
 }

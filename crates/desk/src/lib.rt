@@ -1,6 +1,9 @@
-// The work of the program `fillin`: records come in by standard input, and lines of text leave by standard output.
+// The work of the program `fillin`: records come in by one descriptor, and lines of text leave by another.
 mod answering;
 mod input;
 mod progress;
 
+pub use answering::Ending;
 pub use answering::fill_in;
+pub use input::Desk;
+pub use input::standard;

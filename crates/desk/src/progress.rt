@@ -1,6 +1,5 @@
 // The count of windows on standard error, for someone who waits at a terminal while the lines go elsewhere.
 use libc::STDERR_FILENO;
-use libc::STDOUT_FILENO;
 
 // How many windows lie between two counts that are shown.
 const STEP: u64 = 1_000;
@@ -11,12 +10,12 @@ pub(crate) struct Progress {
     shown: u64,
 }
 
-// Whether standard error is a terminal and standard output is not.
-fn is_wanted() -> bool {
+// Whether standard error is a terminal, and the lines do not go to one.
+fn is_wanted(output: i32) -> bool {
     if libc::isatty(STDERR_FILENO) == 0 {
         return false;
     }
-    libc::isatty(STDOUT_FILENO) == 0
+    libc::isatty(output) == 0
 }
 
 // Writes a count over the one before it.
@@ -27,9 +26,10 @@ fn show(windows: u64) {
 }
 
 impl Progress {
-    pub(crate) fn begin() -> Self {
+    // Before the first record, where the lines go to this descriptor.
+    pub(crate) fn begin(output: i32) -> Self {
         Progress {
-            wanted: is_wanted(),
+            wanted: is_wanted(output),
             shown: 0,
         }
     }

@@ -1,10 +1,19 @@
 // The files of a container, one after the other.
-use crate::transcripts::answer_file;
+use crate::answers::LARGE;
+use crate::answers::answer_file;
 ghost use Prim.Native.Nat.{_+_, _≤_, _<_, _^_};
 ghost use lib.ListN.{length};
 
-// The bit of a length that says: the file is answered at each of its cuts.
-const EACH_CUT: usize = 0x8000_0000;
+// How a file is answered: at each of its cuts, from no bytes to all of them; with at most 1 byte to a read, then 2, and so on; a thousand times, one behind the
+// other; and otherwise as it is.
+const AT_EACH_CUT: u8 = 1;
+
+const IN_PIECES: u8 = 2;
+
+const A_THOUSAND: u8 = 3;
+
+// The bytes of a piece at most: one more than the length and the kind have.
+const MOST_PIECE: usize = 7;
 
 // The four bytes at i, as a size.
 fn u32_at(s: &[u8], i: usize) -> usize
@@ -14,42 +23,50 @@ fn u32_at(s: &[u8], i: usize) -> usize
     numbers::le_u32(s[i], s[i + 1], s[i + 2], s[i + 3]) as usize
 }
 
-// Answers a file at each of its cuts, the first of which has this number; whether all was written.
-fn answer_cuts(number: u64, file: &[u8]) -> bool
-    requires { ⌜ (length (now file) < 2 ^ 32) × (number + length (now file) < 2 ^ 64) ⌝ }
-{
-    let cuts = file.len() + 1;
-    for cut in 0..cuts {
-        if !answer_file(number + cut as u64, &file[..cut]) {
-            return false;
-        }
+// Answers a file at each of its cuts. The number of the next answer.
+fn answer_cuts(number: u64, file: &[u8]) -> u64 {
+    let mut next = number;
+    let mut cut: usize = 0;
+    while cut < file.len() {
+        next = answer_file(next, &file[..cut], 1, LARGE);
+        cut += 1;
     }
-    true
+    answer_file(next, file, 1, LARGE)
 }
 
-// Answers the files up to the end, to one that is cut, or to a write that fails.
-pub(crate) fn answer_container(s: &[u8]) {
+// Answers a file in pieces. The number of the next answer.
+fn answer_pieces(number: u64, file: &[u8]) -> u64 {
+    let mut next = number;
+    for most in 1..=MOST_PIECE {
+        next = answer_file(next, file, 1, most);
+    }
+    next
+}
+
+// Answers a file as it is to be. The number of the next answer.
+fn answer_so(way: u8, number: u64, file: &[u8]) -> u64 {
+    match way {
+        AT_EACH_CUT => answer_cuts(number, file),
+        IN_PIECES => answer_pieces(number, file),
+        A_THOUSAND => answer_file(number, file, 1_000, LARGE),
+        _ => answer_file(number, file, 1, LARGE),
+    }
+}
+
+// Answers the files up to the end, or to one that is cut. The number of the next answer.
+pub(crate) fn answer_container(s: &[u8]) -> u64 {
     let mut number: u64 = 1;
     let mut at: usize = 0;
-    while s.len() - at >= 4 {
-        let field = u32_at(s, at);
-        let size = field % EACH_CUT;
-        let from = at + 4;
+    while s.len() - at >= 5 {
+        let way = s[at];
+        let size = u32_at(s, at + 1);
+        let from = at + 5;
         if size > s.len() - from {
-            return;
+            break;
         }
         let to = from + size;
-        if field < EACH_CUT {
-            if !answer_file(number, &s[from..to]) {
-                return;
-            }
-            number += 1;
-        } else {
-            if !answer_cuts(number, &s[from..to]) {
-                return;
-            }
-            number += size as u64 + 1;
-        }
+        number = answer_so(way, number, &s[from..to]);
         at = to;
     }
+    number
 }

@@ -1,10 +1,10 @@
-// Small record files, each answered as `fillin` answers its input.
+// Record files, each answered by the program's own loop.
 //
-// Standard input is a container of them: a file is its length as a little-endian u32, and then its bytes. A length with its top bit set says that the
-// file is answered at each of its cuts, from no bytes to all of them, each cut as a file of its own. For each file a line says its number, from 1, and its
-// transcript follows.
+// Standard input is a container of them: a byte that says how a file is answered, its length as a little-endian u32, and its bytes. For each answer a line
+// says its number, from 1; the transcript follows; and then a line with the status that a program ends with so. Last come an input that cannot be read and
+// an output that cannot be written.
+mod answers;
 mod container;
-mod transcripts;
 
 use container::answer_container;
 
@@ -14,5 +14,6 @@ const MOST_INPUT: usize = 300_000;
 fn main() {
     let mut input = [0u8; MOST_INPUT];
     let length = io::read_full(libc::STDIN_FILENO, &mut input);
-    answer_container(&input[..length]);
+    let number = answer_container(&input[..length]);
+    answers::answer_neither(number);
 }

@@ -1,4 +1,4 @@
 // `fillin` on an empty input.
 fn main() {
-    desk::fill_in();
+    desk::fill_in(desk::standard());
 }

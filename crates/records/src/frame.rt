@@ -3,6 +3,7 @@ use crate::fields::u32_at;
 ghost use mathlib.Core.Path.{_≡_};
 ghost use Prim.Native.Nat.{_≤_};
 ghost use Rattle.records.specs.Frame.{goodLength, sizeOf, isWhole, payloadAt};
+ghost use Rattle.records.specs.Pieces.{nextIn};
 
 // What a length field says at most: a kind and its payload.
 const MOST_LENGTH: usize = 32_768;
@@ -29,6 +30,28 @@ pub fn size_of(s: &[u8]) -> usize
     }
     let n = u32_at(s, 0);
     if good_length(n) { 4 + n } else { 4 }
+}
+
+// What stands at the front of bytes that come in pieces.
+pub enum Next {
+    // The next record, or what is left of the input where that is less: so many bytes.
+    Bytes(usize),
+    // A part of a record: more has to come first.
+    More,
+}
+
+// The next record at the front of what has come and is not answered yet, which nothing follows where the input has ended.
+pub fn next_record(rest: &[u8], ended: bool) -> Next
+    ensures { λ r. ⌜ r ≡ nextIn (now (rest .entry)) ended ⌝ }
+{
+    let size = size_of(rest);
+    if size <= rest.len() {
+        return Next::Bytes(size);
+    }
+    if ended {
+        return Next::Bytes(rest.len());
+    }
+    Next::More
 }
 
 // Whether a whole record with a good length stands at i.

@@ -6,6 +6,8 @@ mod reader;
 mod windows;
 
 pub use frame::MOST_RECORD;
+pub use frame::Next;
+pub use frame::next_record;
 pub use frame::payload;
 pub use frame::size_of;
 pub use layers::MOST_IN;

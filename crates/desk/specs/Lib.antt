@@ -1,0 +1,3 @@
+-- What the loop over an input relies on.
+pub mod Input
+pub mod Turns

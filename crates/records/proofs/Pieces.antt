@@ -1,0 +1,60 @@
+-- The next record of an input that comes in pieces. Assumes nothing.
+use mathlib.Core.Path.{_≡_, refl, sym, ap, _∙_}
+use Prim.Native.Nat.{ℕ, _+_, _≤_, _<_}
+use mathlib.Core.Bool.{Bool, true, false, cond}
+use mathlib.Core.List.{List}
+use native.Mathlib.Omega.{arith}
+use borrow.Author.Tests.{le-leb, lt-leb, leb-true, leb-false}
+use lib.Dec.{leb, ltb}
+use lib.ListN.{length}
+use Rattle.records.specs.declared.frame.Next.{Next}
+use Rattle.records.specs.declared.frame.Next.the-variants.{Bytes, More}
+use Rattle.numbers.specs.Fields.{le32}
+use Rattle.records.specs.Frame.{goodLength, sizeOf}
+use Rattle.records.specs.Pieces.{nextIn}
+use Rattle.records.proofs.Whole.{good}
+
+-- a record has 32,772 bytes at most
+pub size-most : (s : List ℕ) → sizeOf s ≤ 32772
+unfolding sizeOf
+size-most s = go (ltb (length s) 4) (goodLength (le32 s 0)) refl refl
+  where
+    go : (a b : Bool) → ltb (length s) 4 ≡ a → goodLength (le32 s 0) ≡ b → sizeOf s ≤ 32772
+    go true b e f = simp e (omega arith)
+    go false true e f = simp (e, f) (omega (arith, good _ f))
+    go false false e f = simp (e, f) (omega arith)
+
+module _ (rest : List ℕ) where
+  -- a whole record, or a length that is bad
+  pub next-whole : (ended : Bool) → sizeOf rest ≤ length rest → nextIn rest ended ≡ Bytes (sizeOf rest)
+  unfolding nextIn
+  next-whole ended h = rw (le-leb _ _ h)
+
+  -- all that is left of an input that has ended
+  pub next-left : length rest < sizeOf rest → nextIn rest true ≡ Bytes (length rest)
+  unfolding nextIn
+  next-left h = rw (lt-leb _ _ h)
+
+  pub next-more : length rest < sizeOf rest → nextIn rest false ≡ More
+  unfolding nextIn
+  next-more h = rw (lt-leb _ _ h)
+
+  -- the next record is at the front of what has come, and has no more bytes than a record
+  pub next-within : (ended : Bool) (n : ℕ) → nextIn rest ended ≡ Bytes n → (n ≤ length rest) × (n ≤ 32772)
+  unfolding nextIn
+  next-within ended n e = go (leb (sizeOf rest) (length rest)) ended refl e
+    where
+      go : (a b : Bool) → leb (sizeOf rest) (length rest) ≡ a → cond a (Bytes (sizeOf rest)) (cond b (Bytes (length rest)) More) ≡ Bytes n → (n ≤ length rest) × (n ≤ 32772)
+      go true b a e = let same : sizeOf rest ≡ n = cc in (omega (arith, leb-true (sizeOf rest) (length rest) a), omega (arith, size-most rest))
+      go false true a e = let same : length rest ≡ n = cc in (omega arith, omega (arith, leb-false (sizeOf rest) (length rest) a, size-most rest))
+      go false false a e = let z : _≡_ {A = ℕ} 0 1 = cc in absurd (omega arith)
+
+  -- what more has to come for is shorter than the longest record
+  pub more-short : (ended : Bool) → nextIn rest ended ≡ More → length rest < 32772
+  unfolding nextIn
+  more-short ended e = go (leb (sizeOf rest) (length rest)) ended refl e
+    where
+      go : (a b : Bool) → leb (sizeOf rest) (length rest) ≡ a → cond a (Bytes (sizeOf rest)) (cond b (Bytes (length rest)) More) ≡ More → length rest < 32772
+      go true b a e = let z : _≡_ {A = ℕ} 0 1 = cc in absurd (omega arith)
+      go false true a e = let z : _≡_ {A = ℕ} 0 1 = cc in absurd (omega arith)
+      go false false a e = omega (arith, leb-false (sizeOf rest) (length rest) a, size-most rest)
