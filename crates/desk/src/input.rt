@@ -94,12 +94,14 @@ pub(crate) fn read_on(desk: Desk, buf: &mut [u8], unread: Unread) -> Unread
     let to = unread.to;
     move_to_front(buf, from, to);
     let kept = to - from;
-    let end = kept + smaller(desk.most, buf.len() - kept);
+    let asked = smaller(desk.most, buf.len() - kept);
+    let end = kept + asked;
     let came = read_some(desk.input, &mut buf[kept..end]);
+    let bytes = came.bytes;
     Unread {
         from: 0,
-        to: kept + came.bytes,
-        ended: came.bytes == 0,
+        to: kept + bytes,
+        ended: bytes == 0,
         failed: came.failed,
     }
 }

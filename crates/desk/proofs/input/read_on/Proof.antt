@@ -32,15 +32,15 @@ part-read-some-end c = search needs
 read-some-requires : tie.Need-read-some-requires
 read-some-requires c κs = search needs
 
-add-t14 : tie.Need-add-t14
-add-t14 c = search needs
+add-t15 : tie.Need-add-t15
+add-t15 c = search needs
 
 same-length : tie.Need-same-length
 same-length c = search needs
 
 returns : tie.Need-returns
 returns c =
-    let k = c .before .before .before .before in
+    let k = c .before .before in
     let m = k .before .before .before .before .before .before .move-to-front in
     let s = k .before .before .before .before .before .before .before .before .before in
     let a = s .args in
@@ -59,6 +59,6 @@ read-on-spec =
     part-read-some-start
     part-read-some-end
     read-some-requires
-    add-t14
+    add-t15
     same-length
     returns)
