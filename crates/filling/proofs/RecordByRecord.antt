@@ -59,7 +59,7 @@ module _ (s : List ℕ) (st : State) (w : List ℕ) (within : st .offset ≤ len
   answer-moved h = moved (foundAt own 0 latest) (payloadAt own 0) refl h
 
 -- where the last line is not written yet, the lines that follow are the same
-cond-same : (b : Bool) (x y : List ℕ) → (b ≡ false → x ≡ y) → cond b [] x ≡ cond b [] y
+pub cond-same : (b : Bool) (x y : List ℕ) → (b ≡ false → x ≡ y) → cond b [] x ≡ cond b [] y
 cond-same true x y h = refl
 cond-same false x y h = h refl
 

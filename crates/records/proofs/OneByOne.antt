@@ -21,7 +21,7 @@ abbrev pub ownBytes : List ℕ → ℕ → List ℕ
 ownBytes s i = take (sizeOf (drop i s)) (drop i s)
 
 -- a record has 4 bytes at least
-size-least : (s : List ℕ) → 4 ≤ sizeOf s
+pub size-least : (s : List ℕ) → 4 ≤ sizeOf s
 unfolding sizeOf
 size-least s = go (ltb (length s) 4) (goodLength (le32 s 0)) refl refl
   where

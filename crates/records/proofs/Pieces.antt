@@ -2,11 +2,11 @@
 use mathlib.Core.Path.{_≡_, refl, sym, ap, _∙_}
 use Prim.Native.Nat.{ℕ, _+_, _≤_, _<_}
 use mathlib.Core.Bool.{Bool, true, false, cond}
-use mathlib.Core.List.{List}
+use mathlib.Core.List.{List, _++_}
 use native.Mathlib.Omega.{arith}
-use borrow.Author.Tests.{le-leb, lt-leb, leb-true, leb-false}
+use borrow.Author.Tests.{le-leb, lt-leb, le-ltb, leb-true, leb-false}
 use lib.Dec.{leb, ltb}
-use lib.ListN.{length}
+use lib.ListN.{length, length-append, List·getD-append}
 use Rattle.records.specs.declared.frame.Next.{Next}
 use Rattle.records.specs.declared.frame.Next.the-variants.{Bytes, More}
 use Rattle.numbers.specs.Fields.{le32}
@@ -23,6 +23,14 @@ size-most s = go (ltb (length s) 4) (goodLength (le32 s 0)) refl refl
     go true b e f = simp e (omega arith)
     go false true e f = simp (e, f) (omega (arith, good _ f))
     go false false e f = simp (e, f) (omega arith)
+
+-- the length field decides, so that what follows a record does not change its size
+pub size-front : (s more : List ℕ) → 4 ≤ length s → sizeOf (s ++ more) ≡ sizeOf s
+unfolding sizeOf
+size-front s more h =
+    let long : 4 ≤ length (s ++ more) = rw length-append (omega arith) in
+    let field : le32 (s ++ more) 0 ≡ le32 s 0 = omega (arith, List·getD-append s more 0 0 (omega arith), List·getD-append s more 0 1 (omega arith), List·getD-append s more 0 2 (omega arith), List·getD-append s more 0 3 (omega arith)) in
+    simp (le-ltb _ _ long, le-ltb _ _ h, field)
 
 module _ (rest : List ℕ) where
   -- a whole record, or a length that is bad
