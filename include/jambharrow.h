@@ -6,9 +6,21 @@
  * anything between calls, or needs to be set up, and any number of threads may call at once.
  *
  * How a call is written. A call has the name of the function of quant.rs that it answers for,
- * behind `jambharrow_`, and its parameters in that function's order. A slice is a pointer and,
- * right behind it, how many elements it has; a pointer may be null where that number is 0. Sizes
- * and counts are size_t. Memory that a call writes must not overlap any other that it is given.
+ * behind `jambharrow_`, and its parameters in that function's order. The four calls of the stepped
+ * layer, which quant.rs does not have, are jambharrow_open, _piece, _run and _close. A slice is a
+ * pointer and, right behind it, how many elements it has. Sizes and counts are size_t.
+ *
+ * What a pointer is. A slice's pointer may be null where its number of elements is 0; every other
+ * pointer is to the one value or the array that its type says, and may not be null. A pointer is
+ * aligned as C aligns its type: floats and 32-bit numbers at 4 bytes, bytes anywhere. Memory that
+ * a call writes must not overlap any other that it is given.
+ *
+ * Byte order. Packed bytes are as they lie in a weight file, with little-endian fields, on every
+ * machine. Floats and numbers are the machine's own.
+ *
+ * Interrupts. A call keeps nothing outside its own stack and what it is lent, so it may be
+ * interrupted anywhere, and an interrupt may call too, with buffers of its own, where it saves the
+ * floating-point registers.
  *
  * How a call says no. A call that can refuse returns JAMBHARROW_DONE, or the number of the one
  * reason of enum jambharrow_refusal for which it refused. A refusal leaves all lent memory as it
