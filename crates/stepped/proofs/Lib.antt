@@ -5,4 +5,5 @@ pub mod Runs
 pub mod Counts
 pub mod History
 pub mod OneGo
+pub mod Calls
 pub mod Unique
