@@ -1,4 +1,4 @@
-// An activation block as it stands in a payload: its scale, its quants, a byte each, and its sums, as the floats that they are.
+// An activation block as it stands in a payload: its scale, its quants, a byte each, and its sums, each as the bits of an i32.
 use activations::Q8Block;
 use stored_answers::byte_at;
 use stored_answers::same_bits;
@@ -19,10 +19,19 @@ fn read_quants(payload: &[u8]) -> [i8; 256] {
     qs
 }
 
+// Bits as a signed number, in two's complement.
+fn signed(bits: u32) -> i32 {
+    if bits < 0x8000_0000 {
+        bits as i32
+    } else {
+        -1 - ((0xFFFF_FFFF - bits) as i32)
+    }
+}
+
 fn read_sums(payload: &[u8]) -> [i32; 8] {
     let mut sums = [0i32; 8];
     for j in 0..8usize {
-        sums[j] = numbers::truncate(halves::of_bits(u32_at(payload, SUMS + 4 * j)));
+        sums[j] = signed(u32_at(payload, SUMS + 4 * j));
     }
     sums
 }

@@ -39,14 +39,11 @@ impl Finding {
         Finding::of_same(same_bits(ours, theirs))
     }
 
-    // Of a dot or a sum: theirs is the number that says no, 0 where there is none, and then the value.
+    // Of a dot or a sum.
     pub fn of_answer(ours: Answer, number: u32, value: f32) -> Self
         ensures { λ r. ⌜ r ≡ found (sameAnswer (saidBy ours) number value) ⌝ }
     {
-        match ours {
-            Answer::Value(v) => Finding::of_same(number == 0 && same_bits(v, value)),
-            Answer::Refused(said) => Finding::of_same(said == number),
-        }
+        Finding::of_same(same_answer(ours, number, value))
     }
 }
 
@@ -64,5 +61,15 @@ pub fn says(ours: Outcome, number: u32) -> bool
     match ours {
         Outcome::Done => number == 0,
         Outcome::Refused(said) => said == number,
+    }
+}
+
+// Whether a dot or a sum says this number, or, where the number is 0, this value.
+pub fn same_answer(ours: Answer, number: u32, value: f32) -> bool
+    ensures { λ r. ⌜ r ≡ sameAnswer (saidBy ours) number value ⌝ }
+{
+    match ours {
+        Answer::Value(v) => number == 0 && same_bits(v, value),
+        Answer::Refused(said) => said == number,
     }
 }
