@@ -1,11 +1,11 @@
 -- What the program is to judge of a row, in terms of what the calls answer. Assumes nothing.
 use mathlib.Core.Path.{_≡_, refl, sym, ap, _∙_}
-use mathlib.Core.Bool.{true, false, cond}
+use mathlib.Core.Bool.{Bool, true, false, cond}
 use mathlib.Core.List.{List, [], _∷_}
-use Prim.Native.Nat.{ℕ}
+use Prim.Native.Nat.{ℕ, _+_, _-_, _≤_}
 use native.Mathlib.Omega.{arith}
 use lib.Dec.{eqb}
-use lib.ListN.{length, getD, replicate}
+use lib.ListN.{length, getD, replicate, List·getD-map}
 use lib.Ieee.{Float, binary32, toBits}
 use borrow.Author.Tests.{eq-eqb, le-ltb}
 use Rattle.refusals.specs.Said.{Said, done, outcomeSays}
@@ -23,7 +23,7 @@ use Rattle.activations.specs.Blocks.{quantized}
 use Rattle.activations.specs.declared.block.Quantized.{Quantized}
 use Rattle.activations.proofs.Tests.{every-all}
 use Rattle.stored_answers.specs.Same.{saysNumber, sameBytes}
-use Rattle.bench_card.specs.Card.{Row, floats, valueOf, writtenBy, answer, card, rowAt, sameNumbers, answered}
+use Rattle.bench_card.specs.Card.{Row, row, widen, floats, valueOf, writtenBy, firstQuants, answer, card, rowAt, sameNumbers, answered}
 use Rattle.bench_card.specs.Rows.{meant, judged}
 use Rattle.bench_card.specs.declared.table.Row.the-variants.{Packs, Sums, Quantizes}
 use Rattle.bench_card.proofs.Card.{card-holds}
@@ -68,11 +68,9 @@ summed first bits s e = ap (λ (t : Said). sameNumbers (valueOf t) (bits ∷ [])
 
 -- ---- activation blocks
 
-pub quantised : (x y inv a b c : ℕ) (q : Quantized) → q ≡ quantized (floats (x ∷ y ∷ 0 ∷ []))
-    → judged (Quantizes x y inv a b c)
-    ≡ cond (cond (cond (eqb (toBits binary32 (inverse (q .block .d))) inv) (eqb (byteOf (elem (q .block .qs) 0)) a) false) (eqb (byteOf (elem (q .block .qs) 1)) b) false) (eqb (byteOf (elem (q .block .qs) 2)) c) false
-unfolding judged meant answered answer sameNumbers every table
-quantised x y inv a b c q e = rw e
+pub quantised : (x y inv a b c : ℕ) (q : Quantized) → q ≡ quantized (floats (x ∷ y ∷ 0 ∷ [])) → sameNumbers (firstQuants 3 (q .block)) (inv ∷ a ∷ b ∷ c ∷ []) ≡ judged (Quantizes x y inv a b c)
+unfolding judged meant answered answer
+quantised x y inv a b c q e = ap (λ (r : Quantized). sameNumbers (firstQuants 3 (r .block)) (inv ∷ a ∷ b ∷ c ∷ [])) e
 
 -- ---- the card
 
@@ -82,5 +80,17 @@ same-themselves xs = rw (eq-eqb (length xs) (length xs) refl) (every-all _ _ (λ
 
 -- every row of the card is answered with what it says
 pub row-answered : (n : ℕ) → answered (rowAt n) ≡ true
-unfolding answered rowAt
-row-answered n = ?
+unfolding answered rowAt answer
+row-answered n =
+    let f : Row → List ℕ = λ r. answer (r .asks) in
+    let g : Row → List ℕ = λ r. r .says in
+    let none = row (widen []) [] in
+    let e = sym (List·getD-map f card (n - 1) none) ∙ ap (λ (l : List (List ℕ)). getD l (n - 1) []) card-holds ∙ List·getD-map g card (n - 1) none in
+    rw e (same-themselves (rowAt n .says))
+
+-- ---- counting
+
+-- a row more is at most one wrong more
+pub one-more : (right : Bool) (wrong r : ℕ) → r ≡ cond right wrong (wrong + 1) → r ≤ wrong + 1
+one-more true wrong r e = omega arith
+one-more false wrong r e = omega arith

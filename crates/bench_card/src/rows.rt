@@ -1,5 +1,6 @@
 // Whether the compiled code answers a row as the row says.
 use crate::table::Row;
+use activations::Q8Block;
 use halves::bits_of;
 use halves::f32_to_f16;
 use halves::of_bits;
@@ -10,8 +11,10 @@ use refusals::Answer;
 use stored_answers::same_bytes;
 use stored_answers::says;
 ghost use mathlib.Core.Bool.{true};
+ghost use mathlib.Core.List.{[], _∷_};
 ghost use mathlib.Core.Path.{_≡_};
 ghost use Prim.Native.Nat.{_<_, _≤_};
+ghost use Rattle.bench_card.specs.Card.{firstQuants, sameNumbers};
 ghost use Rattle.bench_card.specs.Rows.{judged};
 
 fn widens(half: u16, bits: u32) -> bool
@@ -74,14 +77,10 @@ fn sums_to(first: u32, bits: u32) -> bool
     bits_of(sum) == bits
 }
 
-fn quantizes(x: u32, y: u32, inverse: u32, a: u8, b: u8, c: u8) -> bool
-    ensures { λ r. ⌜ r ≡ judged (Row.Quantizes x y inverse a b c) ⌝ }
+// The inverse of a block's scale, and its first three quants, as bytes.
+fn block_is(block: Q8Block, inverse: u32, a: u8, b: u8, c: u8) -> bool
+    ensures { λ r. ⌜ r ≡ sameNumbers (firstQuants 3 block) (inverse ∷ a ∷ b ∷ c ∷ []) ⌝ }
 {
-    let mut readings = [0.0f32; 3];
-    readings[0] = of_bits(x);
-    readings[1] = of_bits(y);
-    let answer = activations::quantize_block_q8(&readings);
-    let block = answer.block;
     let qs = block.qs;
     if bits_of(inverse_of(block.d)) != inverse {
         return false;
@@ -93,6 +92,17 @@ fn quantizes(x: u32, y: u32, inverse: u32, a: u8, b: u8, c: u8) -> bool
         return false;
     }
     unsigned_byte(qs[2]) == c
+}
+
+fn quantizes(x: u32, y: u32, inverse: u32, a: u8, b: u8, c: u8) -> bool
+    ensures { λ r. ⌜ r ≡ judged (Row.Quantizes x y inverse a b c) ⌝ }
+{
+    let mut readings = [0.0f32; 3];
+    readings[0] = of_bits(x);
+    readings[1] = of_bits(y);
+    let answer = activations::quantize_block_q8(&readings);
+    let block = answer.block;
+    block_is(block, inverse, a, b, c)
 }
 
 pub fn holds(row: Row) -> bool

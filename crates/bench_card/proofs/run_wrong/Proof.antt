@@ -1,4 +1,7 @@
+-- `run_wrong` is safe: its counts are small. Assumes nothing.
+use native.Mathlib.Omega.{arith}
 use borrow.Author.Needs.{needs}
+use Rattle.bench_card.proofs.Judged.{one-more}
 use Rattle.bench_card.proofs.run_wrong.Statement.{statement}
 use Rattle.bench_card.proofs.run_wrong.Tie as tie
 
@@ -18,7 +21,9 @@ slice-aggregate-judged-2 : tie.Need-slice-aggregate-judged-2
 slice-aggregate-judged-2 c = search needs
 
 judged-requires-2 : tie.Need-judged-requires-2
-judged-requires-2 c κs = ?
+judged-requires-2 c κs =
+    let j = c .before .before in
+    omega (arith, one-more (j .before .before .holds .result) 0 (j .judged .result) (j .judged .ensures))
 
 against-one-block-requires : tie.Need-against-one-block-requires
 against-one-block-requires c κs = search needs
@@ -27,7 +32,10 @@ slice-aggregate-judged-3 : tie.Need-slice-aggregate-judged-3
 slice-aggregate-judged-3 c = search needs
 
 judged-requires-3 : tie.Need-judged-requires-3
-judged-requires-3 c κs = ?
+judged-requires-3 c κs =
+    let i = c .before .before in
+    let j = i .before .before .before in
+    omega (arith, one-more (j .before .before .holds .result) 0 (j .judged .result) (j .judged .ensures), one-more (i .before .before .against-ones .result) (j .judged .result) (i .judged2 .result) (i .judged2 .ensures))
 
 slice-aggregate-print-counts : tie.Need-slice-aggregate-print-counts
 slice-aggregate-print-counts c = search needs

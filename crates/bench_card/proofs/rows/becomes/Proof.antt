@@ -1,5 +1,7 @@
 -- `rows::becomes` meets its contract. Assumes nothing.
 use borrow.Author.Needs.{needs}
+use mir.Syntax.{w32}
+use Rattle.numbers.proofs.Signed.{read-is}
 use Rattle.activations.specs.Whole.{every}
 use Rattle.bench_card.specs.Card.{answer, sameNumbers, answered}
 use Rattle.bench_card.specs.Rows.{meant, judged}
@@ -14,7 +16,7 @@ bits-of-requires c κs = search needs
 
 returns : tie.Need-returns
 unfolding judged meant answered sameNumbers answer every
-returns c = rw (c .bits-of .ensures, c .before .whole-to-f32 .ensures) ?
+returns c = rw (c .bits-of .ensures, c .before .whole-to-f32 .ensures, read-is w32 _ (c .before .before .fits .n .sfits))
 
 pub becomes-spec : {M : Type 1} → statement M
 becomes-spec = tie.close (tie.spec whole-to-f32-requires bits-of-requires returns)

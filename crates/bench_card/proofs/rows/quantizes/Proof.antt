@@ -1,4 +1,11 @@
+-- `rows::quantizes` meets its contract. Assumes nothing.
+use mathlib.Core.Path.{ap, _∙_}
+use mathlib.Core.List.{[], _∷_}
+use lib.Ieee.{Float, binary32, ofBits}
 use borrow.Author.Needs.{needs}
+use Rattle.numbers.specs.Steps.{nought}
+use Rattle.activations.specs.Blocks.{quantized}
+use Rattle.bench_card.proofs.Judged.{quantised}
 use Rattle.bench_card.proofs.rows.quantizes.Statement.{statement}
 use Rattle.bench_card.proofs.rows.quantizes.Tie as tie
 
@@ -20,41 +27,19 @@ slice-aggregate-quantize-block-q8 c = search needs
 quantize-block-q8-requires : tie.Need-quantize-block-q8-requires
 quantize-block-q8-requires c κs = search needs
 
-inverse-of-requires : tie.Need-inverse-of-requires
-inverse-of-requires c κs = search needs
-
-bits-of-requires : tie.Need-bits-of-requires
-bits-of-requires c κs = search needs
+block-is-requires : tie.Need-block-is-requires
+block-is-requires c κs = search needs
 
 returns : tie.Need-returns
-returns c = ?
-
-array-copy-out-unsigned-byte : tie.Need-array-copy-out-unsigned-byte
-array-copy-out-unsigned-byte c = search needs
-
-unsigned-byte-requires : tie.Need-unsigned-byte-requires
-unsigned-byte-requires c κs = search needs
-
-returns-2 : tie.Need-returns-2
-returns-2 c = ?
-
-array-copy-out-unsigned-byte-2 : tie.Need-array-copy-out-unsigned-byte-2
-array-copy-out-unsigned-byte-2 c = search needs
-
-unsigned-byte-requires-2 : tie.Need-unsigned-byte-requires-2
-unsigned-byte-requires-2 c κs = search needs
-
-returns-3 : tie.Need-returns-3
-returns-3 c = ?
-
-array-copy-out-unsigned-byte-3 : tie.Need-array-copy-out-unsigned-byte-3
-array-copy-out-unsigned-byte-3 c = search needs
-
-unsigned-byte-requires-3 : tie.Need-unsigned-byte-requires-3
-unsigned-byte-requires-3 c κs = search needs
-
-returns-4 : tie.Need-returns-4
-returns-4 c = ?
+returns c =
+    let q = c .before .before in
+    let y = q .before .before in
+    let x = y .before in
+    let a = x .before .args in
+    let e = q .quantize-block-q8 .ensures
+    ∙ ap (λ (v : Float). quantized (v ∷ y .of-bits2 .result ∷ nought ∷ [])) (x .of-bits .ensures)
+    ∙ ap (λ (v : Float). quantized (ofBits binary32 (a .x) ∷ v ∷ nought ∷ [])) (y .of-bits2 .ensures) in
+    c .block-is .ensures ∙ quantised (a .x) (a .y) (a .inverse) (a .a) (a .b) (a .c) (q .quantize-block-q8 .result) e
 
 pub quantizes-spec : {M : Type 1} → statement M
 quantizes-spec =
@@ -66,15 +51,5 @@ quantizes-spec =
     array-write-readings-2
     slice-aggregate-quantize-block-q8
     quantize-block-q8-requires
-    inverse-of-requires
-    bits-of-requires
-    returns
-    array-copy-out-unsigned-byte
-    unsigned-byte-requires
-    returns-2
-    array-copy-out-unsigned-byte-2
-    unsigned-byte-requires-2
-    returns-3
-    array-copy-out-unsigned-byte-3
-    unsigned-byte-requires-3
-    returns-4)
+    block-is-requires
+    returns)

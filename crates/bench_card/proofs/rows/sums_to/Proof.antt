@@ -1,6 +1,17 @@
+-- `rows::sums_to` meets its contract: a refusal is no sum. Assumes nothing.
+use mathlib.Core.Path.{sym, ap, _∙_}
 use borrow.Author.Needs.{needs}
+use mathlib.Core.List.{[], _∷_}
+use lib.Ieee.{Float, binary32, ofBits}
+use Rattle.sums.specs.Says.{sumSays}
+use Rattle.activations.specs.Whole.{every}
+use Rattle.bench_card.specs.Card.{sameNumbers}
+use Rattle.bench_card.proofs.Judged.{summed}
 use Rattle.bench_card.proofs.rows.sums_to.Statement.{statement}
 use Rattle.bench_card.proofs.rows.sums_to.Tie as tie
+
+abbrev one : Float
+one = ofBits binary32 0x3F800000
 
 of-bits-requires : tie.Need-of-bits-requires
 of-bits-requires c κs = search needs
@@ -21,13 +32,19 @@ enum-told : tie.Need-enum-told
 enum-told c = search needs
 
 returns : tie.Need-returns
-returns c = ?
+unfolding sameNumbers
+returns c =
+    let a = c .before .before .before .before .before .args in
+    rw (c .enum-told .given .1) at (summed (a .first) (a .bits) _ (c .before .before .canonical-sum-pub .ensures ∙ ap (λ (v : Float). sumSays (v ∷ one ∷ one ∷ []) 3) (c .before .before .before .before .of-bits .ensures)))
 
 bits-of-requires : tie.Need-bits-of-requires
 bits-of-requires c κs = search needs
 
 returns-2 : tie.Need-returns-2
-returns-2 c = ?
+unfolding sameNumbers every
+returns-2 c =
+    let a = c .before .before .before .before .before .before .before .args in
+    rw (c .bits-of .ensures) (rw (c .before .before .sum .given .1) at (summed (a .first) (a .bits) _ (c .before .before .before .before .canonical-sum-pub .ensures ∙ ap (λ (v : Float). sumSays (v ∷ one ∷ one ∷ []) 3) (c .before .before .before .before .before .before .of-bits .ensures))))
 
 pub sums-to-spec : {M : Type 1} → statement M
 sums-to-spec =

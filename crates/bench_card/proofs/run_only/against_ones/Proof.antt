@@ -1,4 +1,9 @@
+-- `run_only::against_ones` meets its contract. Assumes nothing.
 use borrow.Author.Needs.{needs}
+use mathlib.Core.Path.{ap, _∙_}
+use Rattle.refusals.specs.Said.{Said}
+use Rattle.stored_answers.specs.Same.{sameAnswer}
+use Rattle.bench_card.specs.RunOnly.{ones}
 use Rattle.bench_card.proofs.run_only.against_ones.Statement.{statement}
 use Rattle.bench_card.proofs.run_only.against_ones.Tie as tie
 
@@ -12,7 +17,8 @@ same-answer-requires : tie.Need-same-answer-requires
 same-answer-requires c κs = search needs
 
 returns : tie.Need-returns
-returns c = ?
+unfolding ones
+returns c = c .same-answer .ensures ∙ ap (λ (t : Said). sameAnswer t (c .before .before .before .before .args .number) (c .before .before .before .before .args .sum)) (c .before .canonical-dot-pub .ensures)
 
 pub against-ones-spec : {M : Type 1} → statement M
 against-ones-spec =

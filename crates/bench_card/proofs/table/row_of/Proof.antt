@@ -1,5 +1,7 @@
 -- `table::row_of` meets its contract: every row is the card's. Assumes nothing.
 use mathlib.Core.Path.{_≡_}
+use Prim.Native.Nat.{ℕ, _+_, _≤_}
+use native.Mathlib.Nat.{le-antisymm}
 use native.Mathlib.Omega.{arith}
 use Rattle.bench_card.specs.Card.{card, rowAt}
 use Rattle.bench_card.specs.Rows.{meant}
@@ -50,10 +52,19 @@ returns-11 : tie.Need-returns-11
 unfolding card rowAt meant
 returns-11 c = rw (c .match .keys11)
 
+-- past a row that it is not
+next : (k n : ℕ) → k ≤ n → (n ≡ k → ⊥) → k + 1 ≤ n
+next k n h d = omega arith
+
+-- past rows 1 to 6, and past 7 to 11
 returns-12 : tie.Need-returns-12
 unfolding card rowAt meant
 returns-12 c =
-    let e : c .before .args .number ≡ 12 = omega arith in
+    let n = c .before .args .number in
+    let r = c .match .rest in
+    let past6 = next 6 n (next 5 n (next 4 n (next 3 n (next 2 n (next 1 n (c .before .pre .0) (r .0 .0 .0 .0 .0 .0 .0 .0 .0 .0 .1)) (r .0 .0 .0 .0 .0 .0 .0 .0 .0 .1)) (r .0 .0 .0 .0 .0 .0 .0 .0 .1)) (r .0 .0 .0 .0 .0 .0 .0 .1)) (r .0 .0 .0 .0 .0 .0 .1)) (r .0 .0 .0 .0 .0 .1) in
+    let past11 = next 11 n (next 10 n (next 9 n (next 8 n (next 7 n (past6) (r .0 .0 .0 .0 .1)) (r .0 .0 .0 .1)) (r .0 .0 .1)) (r .0 .1)) (r .1) in
+    let e : n ≡ 12 = le-antisymm (c .before .pre .1) past11 in
     rw e
 
 pub row-of-spec : {M : Type 1} → statement M
