@@ -1,7 +1,8 @@
 // Document 01's bench card, run: the rows of specs/Card.antt, asked of the compiled code, and the cases that are run only.
 //
-// A line says of each row, and then of each case by its n, whether what the call answered is what the card says. The last lines are of rows and cases with a
-// wrong answer. Behind the rows, the cases and the wrong ones, a line counts them.
+// A line says of each row, and then of each case by its n, whether what the call answered is what the card says. The
+// last lines are of a row and cases with a wrong answer. Behind the rows, the cases and the wrong ones, a line counts
+// them.
 mod report;
 mod rows;
 mod run_only;

@@ -1,4 +1,4 @@
-// Whether the compiled code answers a row as the row says.
+// Whether the compiled code answers a row as the row says: a function for each kind of row, and one for all.
 use crate::table::Row;
 use activations::Q8Block;
 use halves::bits_of;
@@ -105,6 +105,7 @@ fn quantizes(x: u32, y: u32, inverse: u32, a: u8, b: u8, c: u8) -> bool
     block_is(block, inverse, a, b, c)
 }
 
+// The compiled code answers this row as it says.
 pub fn holds(row: Row) -> bool
     ensures { λ r. ⌜ r ≡ judged row ⌝ }
 {
@@ -121,7 +122,7 @@ pub fn holds(row: Row) -> bool
     }
 }
 
-// Row 1 to 12 of the card holds.
+// Row 1 to 12 of the card, which holds.
 pub fn row_holds(number: u64) -> bool
     requires { ⌜ (0 < number) × (number ≤ 12) ⌝ }
     ensures { λ r. ⌜ r ≡ true ⌝ }
