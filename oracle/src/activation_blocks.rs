@@ -130,11 +130,14 @@ fn sample_quantize_block_q8(records: &mut Records) {
             None => of_rust(quant::quantize_block_q8(x)),
             Some(_) => NONE,
         };
+        let [scale, quants, sums] = stored(&block);
         records.push(&[
             &count(x.len()),
             &floats(x),
             &count(refusal.map_or(0, |refusal| refusal.number() as usize)),
-            &stored(&block),
+            &scale,
+            &quants,
+            &sums,
         ]);
     };
     store(&[0x0080_0000, 0x0000_0200, 0].map(f32::from_bits));
@@ -147,15 +150,12 @@ fn sample_quantize_block_q8(records: &mut Records) {
     }
 }
 
-/// A block as it stands in a payload: its scale, its quants, a byte each, and its sums, as the
-/// floats that they are.
-fn stored(block: &Q8Block) -> Vec<u8> {
-    let sums = block.bsums.map(|sum| sum as f32);
-    for (sum, float) in block.bsums.into_iter().zip(sums) {
-        assert_eq!(float as i32, sum, "a stored sum is a float's");
-    }
+/// A block as it stands in a payload: its scale, its quants, a byte each, and its sums, each as a
+/// little-endian i32.
+fn stored(block: &Q8Block) -> [Vec<u8>; 3] {
     let quants = block.qs.map(|quant| quant as u8);
-    [&floats(&[block.d]), &quants[..], &floats(&sums)].concat()
+    let sums = block.bsums.iter().flat_map(|sum| sum.to_le_bytes());
+    [floats(&[block.d]), quants.to_vec(), sums.collect()]
 }
 
 /// The Rust's block, as ours.
@@ -269,11 +269,14 @@ impl BlockDot {
                 Some(_) => 0.0,
                 None => self.rust_answers(w, block, n),
             };
+            let [scale, quants, sums] = stored(block);
             records.push(&[
                 &count(n),
                 &count(w.len()),
                 w,
-                &stored(block),
+                &scale,
+                &quants,
+                &sums,
                 &count(refusal.map_or(0, |refusal| refusal.number() as usize)),
                 &floats(&[value]),
             ]);

@@ -26,6 +26,7 @@ mod sample;
 mod stepped_layer;
 mod stepped_model;
 mod tally;
+mod wrong_answers;
 
 use calls::{Call, CALLS};
 use compare::{Comparison, Plan};

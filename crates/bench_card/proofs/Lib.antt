@@ -1,2 +1,3 @@
--- The bench card holds.
+-- The bench card holds, and what the program is to judge of it.
 pub mod Card
+pub mod Judged

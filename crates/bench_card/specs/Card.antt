@@ -1,16 +1,20 @@
 -- Document 01's bench card as one table: what each row asks, what the card says, and what the definitions that the contracts cite answer. Definitions only.
-use Prim.Native.Nat.{ℕ}
+use Prim.Native.Nat.{ℕ, _-_}
+use mathlib.Core.Bool.{Bool, false, cond}
 use mathlib.Core.List.{List, [], _∷_, map}
-use lib.IntN.{pos}
-use lib.ListN.{length, replicate, take}
+use lib.Dec.{eqb}
+use lib.IntN.{ℤ, pos}
+use lib.ListN.{length, getD, replicate}
 use lib.Ieee.{Float, binary32, ofBits, toBits, ofInt}
 use Rattle.refusals.specs.Said.{Said, value, done, refused}
+use Rattle.memory.specs.Lists.{table}
 use Rattle.halves.specs.Binary16.{widened, narrowed}
 use Rattle.numbers.specs.Fields.{byteOf}
 use Rattle.readings.specs.Readings.{inverse, quantQ8}
 use Rattle.quantizers.specs.Says.{quantizeSays}
 use Rattle.quantizers.specs.declared.target.Target.the-variants.{Q40}
 use Rattle.sums.specs.Says.{sumSays}
+use Rattle.activations.specs.Whole.{elem, every}
 use Rattle.activations.specs.Blocks.{quantized}
 use Rattle.activations.specs.declared.block.Q8Block.{Q8Block}
 
@@ -25,7 +29,7 @@ pub data Asked : Type 0 where
   -- the sum of these
   sum : List ℕ → Asked
   -- what this integer becomes
-  becomes : ℕ → Asked
+  becomes : ℤ → Asked
   -- the inverse of these readings' scale, and their quants
   quants : List ℕ → Asked
   -- the quant that this scaled reading gives
@@ -54,7 +58,7 @@ writtenBy (refused num, out) = []
 
 -- of an activation block of n readings: the inverse of its scale, and their quants
 abbrev pub firstQuants : ℕ → Q8Block → List ℕ
-firstQuants n block = toBits binary32 (inverse (block .d)) ∷ map byteOf (take n (block .qs))
+firstQuants n block = toBits binary32 (inverse (block .d)) ∷ table (λ i. byteOf (elem (block .qs) i)) n
 
 -- what the definitions answer
 unfoldable pub answer : Asked → List ℕ
@@ -62,12 +66,12 @@ answer (widen hs) = map (λ h. toBits binary32 (widened h)) hs
 answer (encode bs) = map narrowed bs
 answer (packed bs) = writtenBy (quantizeSays Q40 (floats bs) (replicate 18 0))
 answer (sum bs) = valueOf (sumSays (floats bs) (length bs))
-answer (becomes n) = toBits binary32 (ofInt binary32 (pos n)) ∷ []
+answer (becomes n) = toBits binary32 (ofInt binary32 n) ∷ []
 answer (quants bs) = firstQuants (length bs) (quantized (floats bs) .block)
 answer (gives b) = byteOf (quantQ8 (ofBits binary32 b)) ∷ []
 
 -- a row of the card
-abbrev row : Asked → List ℕ → Row
+abbrev pub row : Asked → List ℕ → Row
 row a s = record { asks = a; says = s }
 
 -- the twelve rows, in the card's order
@@ -86,9 +90,21 @@ card =
     -- 16777216, 1, 1: 16777216
     ∷ row (sum (0x4B800000 ∷ 0x3F800000 ∷ 0x3F800000 ∷ [])) (0x4B800000 ∷ [])
     -- 16777220.0
-    ∷ row (becomes 16777219) (0x4B800002 ∷ [])
+    ∷ row (becomes (pos 16777219)) (0x4B800002 ∷ [])
     -- 2^-126, 2^-140, 0: the inverse is infinite, quants 127, 127, 0
     ∷ row (quants (0x00800000 ∷ 0x00000200 ∷ 0x00000000 ∷ [])) (0x7F800000 ∷ 127 ∷ 127 ∷ 0 ∷ [])
     -- just under 0.5
     ∷ row (gives 0x3EFFFFFF) (1 ∷ [])
     ∷ []
+
+-- row n of the card, counted from 1; behind the last stands one that asks nothing
+unfoldable pub rowAt : ℕ → Row
+rowAt n = getD card (n - 1) (row (widen []) [])
+
+-- two lists have the same numbers
+unfoldable pub sameNumbers : List ℕ → List ℕ → Bool
+sameNumbers xs ys = cond (eqb (length xs) (length ys)) (every (λ i. eqb (getD xs i 0) (getD ys i 0)) (length ys)) false
+
+-- the definitions answer a row with what it says
+unfoldable pub answered : Row → Bool
+answered r = sameNumbers (answer (r .asks)) (r .says)

@@ -1,15 +1,19 @@
 // Document 01's bench card, run: the rows of specs/Card.antt, asked of the compiled code, and the cases that are run only.
 //
-// A line says of each row, and then of each case by its n, whether what the call answered is what the card says. Behind the rows, and behind the cases, a
-// line counts them.
+// A line says of each row, and then of each case by its n, whether what the call answered is what the card says. The
+// last lines are of a row and cases with a wrong answer. Behind the rows, the cases and the wrong ones, a line counts
+// them.
 mod report;
 mod rows;
 mod run_only;
+mod table;
+
+use table::Row;
 
 fn run_rows() {
     let mut wrong: u64 = 0;
-    for row in 1..13u64 {
-        wrong = report::judged(b"row ", row, rows::holds(row), wrong);
+    for number in 1..13u64 {
+        wrong = report::judged(b"row ", number, rows::row_holds(number), wrong);
     }
     report::print_counts(12, b" rows, ", wrong);
 }
@@ -19,14 +23,28 @@ fn run_cases(x: &[f32]) {
     let cases = [0usize, 1, 8_192, 8_193, 255, 256, 257];
     for case in 0..7usize {
         let n = cases[case];
+        let sum = run_only::plain_sum(x, n);
         let right = if case < 4 {
-            run_only::against_ones(x, n)
+            run_only::against_ones(x, n, 0, sum)
+        } else if n <= 256 {
+            run_only::against_one_block(x, n, 0, sum)
         } else {
-            run_only::against_one_block(x, n)
+            run_only::against_one_block(x, n, refusals::WEIGHTS_SHORT, sum)
         };
         wrong = report::judged(b"run only ", n as u64, right, wrong);
     }
     report::print_counts(7, b" run only, ", wrong);
+}
+
+// A row of the card with another quant, and two cases with another sum and another number.
+fn run_wrong(x: &[f32]) {
+    let row = rows::holds(Row::Gives(0x3EFF_FFFF, 0));
+    let mut wrong = report::judged(b"wrong ", 1, row, 0);
+    let sum = run_only::against_ones(x, 1, 0, 2.0);
+    wrong = report::judged(b"wrong ", 2, sum, wrong);
+    let number = run_only::against_one_block(x, 257, refusals::READINGS_SHORT, 0.0);
+    wrong = report::judged(b"wrong ", 3, number, wrong);
+    report::print_counts(3, b" wrong on purpose, ", wrong);
 }
 
 fn main() {
@@ -34,4 +52,5 @@ fn main() {
     let mut x = [0.0f32; run_only::MOST];
     run_only::fill(&mut x);
     run_cases(&x);
+    run_wrong(&x);
 }

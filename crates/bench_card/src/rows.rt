@@ -1,73 +1,131 @@
-// The twelve rows of the bench card: what each asks of the compiled code, and whether the answer is what the card says. A float is given by its bits.
+// Whether the compiled code answers a row as the row says: a function for each kind of row, and one for all.
+use crate::table::Row;
+use activations::Q8Block;
 use halves::bits_of;
 use halves::f32_to_f16;
 use halves::of_bits;
+use numbers::unsigned_byte;
+use readings::inverse_of;
 use readings::round_q8;
 use refusals::Answer;
 use stored_answers::same_bytes;
 use stored_answers::says;
+ghost use mathlib.Core.Bool.{true};
+ghost use mathlib.Core.List.{[], _∷_};
+ghost use mathlib.Core.Path.{_≡_};
+ghost use Prim.Native.Nat.{_<_, _≤_};
+ghost use Rattle.bench_card.specs.Card.{firstQuants, sameNumbers};
+ghost use Rattle.bench_card.specs.Rows.{judged};
 
-// f16 `half` is `bits`.
-fn widens(half: u16, bits: u32) -> bool {
+fn widens(half: u16, bits: u32) -> bool
+    ensures { λ r. ⌜ r ≡ judged (Row.Widens half bits) ⌝ }
+{
     bits_of(halves::f16_to_f32(half)) == bits
 }
 
-// Q4_0 of a first reading and 31 zeros: these three bytes, then fifteen 88.
-fn packs(first: f32, bytes: [u8; 3]) -> bool {
-    let mut readings = [0.0f32; 32];
-    readings[0] = first;
-    let mut card = [0x88u8; 18];
-    card[0] = bytes[0];
-    card[1] = bytes[1];
-    card[2] = bytes[2];
-    let mut out = [0u8; 18];
-    says(quantizers::quantize_q4_0(&readings, &mut out), 0) && same_bytes(&card, &out)
+fn encodes(a: u32, x: u16) -> bool
+    ensures { λ r. ⌜ r ≡ judged (Row.Encodes a x) ⌝ }
+{
+    f32_to_f16(a) == x
 }
 
-// The sum of a first reading, 1, 1 is `bits`.
-fn sums_to(first: f32, bits: u32) -> bool {
+fn encodes_two(a: u32, x: u16, b: u32, y: u16) -> bool
+    ensures { λ r. ⌜ r ≡ judged (Row.EncodesTwo a x b y) ⌝ }
+{
+    encodes(a, x) && encodes(b, y)
+}
+
+fn encodes_three(a: u32, x: u16, b: u32, y: u16, c: u32, z: u16) -> bool
+    ensures { λ r. ⌜ r ≡ judged (Row.EncodesThree a x b y c z) ⌝ }
+{
+    encodes_two(a, x, b, y) && encodes(c, z)
+}
+
+fn becomes(n: i32, bits: u32) -> bool
+    ensures { λ r. ⌜ r ≡ judged (Row.Becomes n bits) ⌝ }
+{
+    bits_of(numbers::whole_to_f32(n)) == bits
+}
+
+fn gives(bits: u32, quant: u8) -> bool
+    ensures { λ r. ⌜ r ≡ judged (Row.Gives bits quant) ⌝ }
+{
+    unsigned_byte(round_q8(of_bits(bits))) == quant
+}
+
+fn packs(first: u32, a: u8, b: u8, c: u8) -> bool
+    ensures { λ r. ⌜ r ≡ judged (Row.Packs first a b c) ⌝ }
+{
+    let mut readings = [0.0f32; 32];
+    readings[0] = of_bits(first);
+    let mut card = [0x88u8; 18];
+    card[0] = a;
+    card[1] = b;
+    card[2] = c;
+    let mut out = [0u8; 18];
+    says(quantizers::quantize_q4_0(&readings, &mut out), 0) && same_bytes(&out, &card)
+}
+
+fn sums_to(first: u32, bits: u32) -> bool
+    ensures { λ r. ⌜ r ≡ judged (Row.Sums first bits) ⌝ }
+{
     let mut readings = [1.0f32; 3];
-    readings[0] = first;
+    readings[0] = of_bits(first);
     let Answer::Value(sum) = sums::canonical_sum_pub(&readings, 3) else {
         return false;
     };
     bits_of(sum) == bits
 }
 
-// Readings 2^-126, 2^-140, 0: the inverse is `inverse`, and the quants are these.
-fn quantizes(inverse: u32, quants: [i8; 3]) -> bool {
-    let mut readings = [0.0f32; 3];
-    readings[0] = of_bits(0x0080_0000);
-    readings[1] = of_bits(0x0000_0200);
-    let answer = activations::quantize_block_q8(&readings);
-    let block = answer.block;
+// The inverse of a block's scale, and its first three quants, as bytes.
+fn block_is(block: Q8Block, inverse: u32, a: u8, b: u8, c: u8) -> bool
+    ensures { λ r. ⌜ r ≡ sameNumbers (firstQuants 3 block) (inverse ∷ a ∷ b ∷ c ∷ []) ⌝ }
+{
     let qs = block.qs;
-    answer.no == 0
-        && bits_of(readings::inverse_of(block.d)) == inverse
-        && qs[0] == quants[0]
-        && qs[1] == quants[1]
-        && qs[2] == quants[2]
+    if bits_of(inverse_of(block.d)) != inverse {
+        return false;
+    }
+    if unsigned_byte(qs[0]) != a {
+        return false;
+    }
+    if unsigned_byte(qs[1]) != b {
+        return false;
+    }
+    unsigned_byte(qs[2]) == c
 }
 
-// Row 1 to 12 of the card.
-pub fn holds(row: u64) -> bool {
+fn quantizes(x: u32, y: u32, inverse: u32, a: u8, b: u8, c: u8) -> bool
+    ensures { λ r. ⌜ r ≡ judged (Row.Quantizes x y inverse a b c) ⌝ }
+{
+    let mut readings = [0.0f32; 3];
+    readings[0] = of_bits(x);
+    readings[1] = of_bits(y);
+    let answer = activations::quantize_block_q8(&readings);
+    let block = answer.block;
+    block_is(block, inverse, a, b, c)
+}
+
+// The compiled code answers this row as it says.
+pub fn holds(row: Row) -> bool
+    ensures { λ r. ⌜ r ≡ judged row ⌝ }
+{
     match row {
-        1 => widens(0x3C00, 0x3F80_0000),
-        2 => widens(0x0001, 0x3380_0000),
-        3 => widens(0x03FF, 0x387F_C000),
-        4 => f32_to_f16(0x387F_FFFF) == 0x0000 && f32_to_f16(0x3880_0000) == 0x0400,
-        5 => f32_to_f16(0x3F80_1FFF) == 0x3C00,
-        6 => {
-            f32_to_f16(0x477F_FFFF) == 0x7BFF
-                && f32_to_f16(0x4780_0000) == 0x7C00
-                && f32_to_f16(0xFFC0_0000) == 0xFC00
-        }
-        7 => packs(0.0, [0x00, 0x80, 0x88]),
-        8 => packs(8.0, [0x00, 0xBC, 0x80]),
-        9 => sums_to(16777216.0, 0x4B80_0000),
-        10 => bits_of(numbers::whole_to_f32(16_777_219)) == 0x4B80_0002,
-        11 => quantizes(0x7F80_0000, [127, 127, 0]),
-        12 => round_q8(of_bits(0x3EFF_FFFF)) == 1,
-        _ => false,
+        Row::Widens(half, bits) => widens(half, bits),
+        Row::Encodes(a, x) => encodes(a, x),
+        Row::EncodesTwo(a, x, b, y) => encodes_two(a, x, b, y),
+        Row::EncodesThree(a, x, b, y, c, z) => encodes_three(a, x, b, y, c, z),
+        Row::Packs(first, a, b, c) => packs(first, a, b, c),
+        Row::Sums(first, bits) => sums_to(first, bits),
+        Row::Becomes(n, bits) => becomes(n, bits),
+        Row::Quantizes(x, y, inverse, a, b, c) => quantizes(x, y, inverse, a, b, c),
+        Row::Gives(bits, quant) => gives(bits, quant),
     }
+}
+
+// Row 1 to 12 of the card, which holds.
+pub fn row_holds(number: u64) -> bool
+    requires { ⌜ (0 < number) × (number ≤ 12) ⌝ }
+    ensures { λ r. ⌜ r ≡ true ⌝ }
+{
+    holds(crate::table::row_of(number))
 }

@@ -1,6 +1,11 @@
 // The cases that are run only. Readings are small whole numbers and weights are ones, so that every sum is exact, in whatever order it is added up.
-use refusals::Answer;
-use stored_answers::same_bits;
+use layouts::FormatK;
+use stored_answers::same_answer;
+ghost use mathlib.Core.Path.{_≡_};
+ghost use Rattle.sums.specs.Says.{dotSays};
+ghost use Rattle.fused.specs.Says.{fusedSays};
+ghost use Rattle.stored_answers.specs.Same.{sameAnswer};
+ghost use Rattle.bench_card.specs.RunOnly.{ones, blockOfOnes};
 
 // The places of a row at most: one more than a chunk has.
 pub const MOST: usize = 8_193;
@@ -13,7 +18,7 @@ pub fn fill(x: &mut [f32]) {
 }
 
 // The first n readings, added up one after the other.
-fn plain_sum(x: &[f32], n: usize) -> f32 {
+pub fn plain_sum(x: &[f32], n: usize) -> f32 {
     let mut sum: f32 = 0.0;
     for i in 0..x.len() {
         if i < n {
@@ -23,17 +28,18 @@ fn plain_sum(x: &[f32], n: usize) -> f32 {
     sum
 }
 
-// The first n readings against as many ones are their sum.
-pub fn against_ones(x: &[f32], n: usize) -> bool {
+// The first n readings against as many ones say this number, or, where the number is 0, this sum.
+pub fn against_ones(x: &[f32], n: usize, number: u32, sum: f32) -> bool
+    ensures { λ r. ⌜ r ≡ sameAnswer (dotSays (now (x .entry)) ones n) number sum ⌝ }
+{
     let w = [1.0f32; MOST];
-    let Answer::Value(dot) = sums::canonical_dot_pub(x, &w, n) else {
-        return false;
-    };
-    same_bits(dot, plain_sum(x, n))
+    same_answer(sums::canonical_dot_pub(x, &w, n), number, sum)
 }
 
-// The first n readings against one Q4_K block whose values are ones: their sum for each of its 256 values, and past them 3.
-pub fn against_one_block(x: &[f32], n: usize) -> bool {
+// The same against one Q4_K block whose values are ones.
+pub fn against_one_block(x: &[f32], n: usize, number: u32, sum: f32) -> bool
+    ensures { λ r. ⌜ r ≡ sameAnswer (fusedSays FormatK.Q4K (now (x .entry)) blockOfOnes n) number sum ⌝ }
+{
     let mut block = [0x11u8; 144];
     // d = 1, dmin = 0, and the scales that are not 1 yet
     block[0] = 0x00;
@@ -44,8 +50,5 @@ pub fn against_one_block(x: &[f32], n: usize) -> bool {
     block[5] = 1;
     block[6] = 1;
     block[7] = 1;
-    match fused::canonical_dot_q4k_fused(x, &block, n) {
-        Answer::Value(dot) => n <= 256 && same_bits(dot, plain_sum(x, n)),
-        Answer::Refused(no) => n > 256 && no == refusals::WEIGHTS_SHORT,
-    }
+    same_answer(fused::canonical_dot_q4k_fused(x, &block, n), number, sum)
 }

@@ -1,8 +1,11 @@
-// An activation block as it stands in a payload: its scale, its quants, a byte each, and its sums, as the floats that they are.
+// An activation block as it stands in a payload: its scale, its quants, a byte each, and its sums, each as the bits of
+// an i32.
 use activations::Q8Block;
 use stored_answers::byte_at;
 use stored_answers::same_bits;
 use stored_answers::u32_at;
+ghost use mathlib.Core.Path.{_≡_};
+ghost use Rattle.activations.specs.Whole.{elem, eqZ, every};
 
 // The bytes of a block.
 pub const BLOCK: usize = 292;
@@ -19,10 +22,19 @@ fn read_quants(payload: &[u8]) -> [i8; 256] {
     qs
 }
 
+// Bits as a signed number, in two's complement.
+fn signed(bits: u32) -> i32 {
+    if bits < 0x8000_0000 {
+        bits as i32
+    } else {
+        -1 - ((0xFFFF_FFFF - bits) as i32)
+    }
+}
+
 fn read_sums(payload: &[u8]) -> [i32; 8] {
     let mut sums = [0i32; 8];
     for j in 0..8usize {
-        sums[j] = numbers::truncate(halves::of_bits(u32_at(payload, SUMS + 4 * j)));
+        sums[j] = signed(u32_at(payload, SUMS + 4 * j));
     }
     sums
 }
@@ -35,7 +47,9 @@ pub fn read_block(payload: &[u8]) -> Q8Block {
     Q8Block { d, qs, bsums }
 }
 
-fn same_quants(a: &[i8; 256], b: &[i8; 256]) -> bool {
+fn same_quants(a: &[i8; 256], b: &[i8; 256]) -> bool
+    ensures { λ r. ⌜ r ≡ every (λ i. eqZ (elem (now (a .entry)) i) (elem (now (b .entry)) i)) 256 ⌝ }
+{
     for i in 0..256usize {
         if a[i] != b[i] {
             return false;
@@ -44,7 +58,9 @@ fn same_quants(a: &[i8; 256], b: &[i8; 256]) -> bool {
     true
 }
 
-fn same_sums(a: &[i32; 8], b: &[i32; 8]) -> bool {
+fn same_sums(a: &[i32; 8], b: &[i32; 8]) -> bool
+    ensures { λ r. ⌜ r ≡ every (λ j. eqZ (elem (now (a .entry)) j) (elem (now (b .entry)) j)) 8 ⌝ }
+{
     for j in 0..8usize {
         if a[j] != b[j] {
             return false;

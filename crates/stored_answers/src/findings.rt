@@ -1,6 +1,9 @@
 // What comes of a record of the sample.
 use refusals::Answer;
 use refusals::Outcome;
+ghost use mathlib.Core.Path.{_≡_};
+ghost use Rattle.refusals.specs.Said.{saidBy, outcomeSays};
+ghost use Rattle.stored_answers.specs.Same.{sameBits, saysNumber, sameAnswer, found};
 
 pub enum Finding {
     // Our answer is the Rust's.
@@ -20,7 +23,9 @@ pub enum Finding {
 }
 
 impl Finding {
-    pub fn of_same(same: bool) -> Self {
+    pub fn of_same(same: bool) -> Self
+        ensures { λ r. ⌜ r ≡ found same ⌝ }
+    {
         if same {
             Finding::Same
         } else {
@@ -28,28 +33,43 @@ impl Finding {
         }
     }
 
-    pub fn of_floats(ours: f32, theirs: f32) -> Self {
+    pub fn of_floats(ours: f32, theirs: f32) -> Self
+        ensures { λ r. ⌜ r ≡ found (sameBits ours theirs) ⌝ }
+    {
         Finding::of_same(same_bits(ours, theirs))
     }
 
-    // Of a dot or a sum: theirs is the number that says no, 0 where there is none, and then the value.
-    pub fn of_answer(ours: Answer, number: u32, value: f32) -> Self {
-        match ours {
-            Answer::Value(v) => Finding::of_same(number == 0 && same_bits(v, value)),
-            Answer::Refused(said) => Finding::of_same(said == number),
-        }
+    // Of a dot or a sum.
+    pub fn of_answer(ours: Answer, number: u32, value: f32) -> Self
+        ensures { λ r. ⌜ r ≡ found (sameAnswer (saidBy ours) number value) ⌝ }
+    {
+        Finding::of_same(same_answer(ours, number, value))
     }
 }
 
 // Whether two floats are the same bits, or both NaN.
-pub fn same_bits(a: f32, b: f32) -> bool {
+pub fn same_bits(a: f32, b: f32) -> bool
+    ensures { λ r. ⌜ r ≡ sameBits a b ⌝ }
+{
     halves::bits_of(a) == halves::bits_of(b)
 }
 
 // Whether a call that fills lent memory says this number: that it is done is 0.
-pub fn says(ours: Outcome, number: u32) -> bool {
+pub fn says(ours: Outcome, number: u32) -> bool
+    ensures { λ r. ⌜ r ≡ saysNumber (outcomeSays ours) number ⌝ }
+{
     match ours {
         Outcome::Done => number == 0,
         Outcome::Refused(said) => said == number,
+    }
+}
+
+// Whether a dot or a sum says this number, or, where the number is 0, this value.
+pub fn same_answer(ours: Answer, number: u32, value: f32) -> bool
+    ensures { λ r. ⌜ r ≡ sameAnswer (saidBy ours) number value ⌝ }
+{
+    match ours {
+        Answer::Value(v) => number == 0 && same_bits(v, value),
+        Answer::Refused(said) => said == number,
     }
 }

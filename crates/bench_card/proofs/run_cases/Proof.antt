@@ -1,14 +1,16 @@
--- `run_cases` is safe and ends. The measure is the cases left. Assumes nothing.
-use Prim.Native.Nat.{_-_}
+-- `run_cases` is safe and ends: no more cases are wrong than were run. Assumes nothing.
+use Prim.Native.Nat.{_-_, _≤_}
+use native.Mathlib.Omega.{arith}
 use borrow.Author.Needs.{needs}
+use Rattle.bench_card.proofs.Judged.{one-more}
 use Rattle.bench_card.proofs.run_cases.Statement.{statement}
 use Rattle.bench_card.proofs.run_cases.Tie as tie
 
 abbrev Inv-loop : tie.InvT-loop
-Inv-loop x wrong₀ cases case₀ t7 t8 wrong case = Unit {0}
+Inv-loop x wrong₀ cases case₀ t8 t9 wrong case = (case ≤ 7) × (wrong ≤ case)
 
 abbrev μ-loop : tie.MeasureT-loop
-μ-loop x wrong₀ cases case₀ t7 t8 wrong case = 7 - case
+μ-loop x wrong₀ cases case₀ t8 t9 wrong case = 7 - case
 
 loop-holds : tie.Need-loop-holds Inv-loop μ-loop
 loop-holds c = search needs
@@ -19,11 +21,17 @@ mul-n c = search needs
 array-read-n : tie.Need-array-read-n Inv-loop μ-loop
 array-read-n c = search needs
 
+plain-sum-requires : tie.Need-plain-sum-requires Inv-loop μ-loop
+plain-sum-requires c κs = search needs
+
 against-ones-requires : tie.Need-against-ones-requires Inv-loop μ-loop
 against-ones-requires c κs = search needs
 
 against-one-block-requires : tie.Need-against-one-block-requires Inv-loop μ-loop
 against-one-block-requires c κs = search needs
+
+against-one-block-requires-2 : tie.Need-against-one-block-requires-2 Inv-loop μ-loop
+against-one-block-requires-2 c κs = search needs
 
 slice-aggregate-judged : tie.Need-slice-aggregate-judged Inv-loop μ-loop
 slice-aggregate-judged c = search needs
@@ -38,7 +46,7 @@ loop-less : tie.Need-loop-less Inv-loop μ-loop
 loop-less c = search needs
 
 loop-again : tie.Need-loop-again Inv-loop μ-loop
-loop-again c = search needs
+loop-again c = (omega arith, omega (arith, one-more (c .before .before .if1 .right) (c .before .before .before .before .before .loop .wrong) (c .judged .result) (c .judged .ensures)))
 
 slice-aggregate-print-counts : tie.Need-slice-aggregate-print-counts Inv-loop μ-loop
 slice-aggregate-print-counts c = search needs
@@ -58,8 +66,10 @@ run-cases-spec =
     loop-holds
     mul-n
     array-read-n
+    plain-sum-requires
     against-ones-requires
     against-one-block-requires
+    against-one-block-requires-2
     slice-aggregate-judged
     judged-requires
     add-case

@@ -1,14 +1,17 @@
--- `run_rows` is safe and ends. The measure is the rows left. Assumes nothing.
-use Prim.Native.Nat.{_-_}
+-- `run_rows` is safe and ends, and no row is wrong. Assumes nothing.
+use mathlib.Core.Path.{_≡_, refl, ap, _∙_}
+use mathlib.Core.Bool.{Bool, cond}
+use Prim.Native.Nat.{_-_, _<_, _≤_}
+use native.Mathlib.Omega.{arith}
 use borrow.Author.Needs.{needs}
 use Rattle.bench_card.proofs.run_rows.Statement.{statement}
 use Rattle.bench_card.proofs.run_rows.Tie as tie
 
 abbrev Inv-loop : tie.InvT-loop
-Inv-loop wrong₀ row₀ t3 t4 wrong row = Unit {0}
+Inv-loop wrong₀ number₀ t3 t4 wrong number = (0 < number) × (number ≤ 13) × (wrong ≡ 0)
 
 abbrev μ-loop : tie.MeasureT-loop
-μ-loop wrong₀ row₀ t3 t4 wrong row = 13 - row
+μ-loop wrong₀ number₀ t3 t4 wrong number = 13 - number
 
 loop-holds : tie.Need-loop-holds Inv-loop μ-loop
 loop-holds c = search needs
@@ -16,20 +19,21 @@ loop-holds c = search needs
 slice-aggregate-judged : tie.Need-slice-aggregate-judged Inv-loop μ-loop
 slice-aggregate-judged c = search needs
 
-holds-requires : tie.Need-holds-requires Inv-loop μ-loop
-holds-requires c κs = search needs
+row-holds-requires : tie.Need-row-holds-requires Inv-loop μ-loop
+row-holds-requires c κs = search needs
 
 judged-requires : tie.Need-judged-requires Inv-loop μ-loop
 judged-requires c κs = search needs
 
-add-row : tie.Need-add-row Inv-loop μ-loop
-add-row c = search needs
+add-number : tie.Need-add-number Inv-loop μ-loop
+add-number c = search needs
 
 loop-less : tie.Need-loop-less Inv-loop μ-loop
 loop-less c = search needs
 
 loop-again : tie.Need-loop-again Inv-loop μ-loop
-loop-again c = search needs
+loop-again c =
+    (omega arith, omega arith, (rw (c .before .row-holds .ensures) at (c .judged .ensures)) ∙ c .before .before .before .before .loop .inv .2)
 
 slice-aggregate-print-counts : tie.Need-slice-aggregate-print-counts Inv-loop μ-loop
 slice-aggregate-print-counts c = search needs
@@ -48,9 +52,9 @@ run-rows-spec =
     μ-loop
     loop-holds
     slice-aggregate-judged
-    holds-requires
+    row-holds-requires
     judged-requires
-    add-row
+    add-number
     loop-less
     loop-again
     slice-aggregate-print-counts

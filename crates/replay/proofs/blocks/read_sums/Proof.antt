@@ -22,11 +22,8 @@ add-u32-at c = omega arith
 u32-at-requires : tie.Need-u32-at-requires Inv-loop μ-loop
 u32-at-requires c κs = tt
 
-of-bits-requires : tie.Need-of-bits-requires Inv-loop μ-loop
-of-bits-requires c κs = tt
-
-truncate-requires : tie.Need-truncate-requires Inv-loop μ-loop
-truncate-requires c κs = tt
+signed-requires : tie.Need-signed-requires Inv-loop μ-loop
+signed-requires c κs = tt
 
 mul-sums : tie.Need-mul-sums Inv-loop μ-loop
 mul-sums c = omega arith
@@ -56,8 +53,7 @@ read-sums-spec =
     mul-u32-at
     add-u32-at
     u32-at-requires
-    of-bits-requires
-    truncate-requires
+    signed-requires
     mul-sums
     array-set-from-sums
     add-j

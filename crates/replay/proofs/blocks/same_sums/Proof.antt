@@ -1,17 +1,24 @@
--- `blocks::same_sums` is safe and ends. The measure is the sums left. Assumes nothing.
-use Prim.Native.Nat.{_-_}
+-- `blocks::same_sums` meets its contract: every sum passed is the same. Assumes nothing.
+use mathlib.Core.Path.{_≡_, sym, ap, _∙_}
+use mathlib.Core.Bool.{true}
+use Prim.Native.Nat.{_-_, _≤_}
+use mir.Syntax.{w32}
+use mir.Val.{ofZ, toZ}
+use Rattle.numbers.proofs.Signed.{read-is}
+use Rattle.activations.specs.Whole.{elem, eqZ, every}
+use Rattle.activations.proofs.Tests.{eqZ-same, eqZ-not, every-none, every-more, every-not}
 use native.Mathlib.Omega.{arith}
 use Rattle.replay.proofs.blocks.same_sums.Statement.{statement}
 use Rattle.replay.proofs.blocks.same_sums.Tie as tie
 
 abbrev Inv-loop : tie.InvT-loop
-Inv-loop a b j₀ j = Unit {0}
+Inv-loop a b j₀ j = (j ≤ 8) × (every (λ k. eqZ (elem a k) (elem b k)) j ≡ true)
 
 abbrev μ-loop : tie.MeasureT-loop
 μ-loop a b j₀ j = 8 - j
 
 loop-holds : tie.Need-loop-holds Inv-loop μ-loop
-loop-holds c = tt
+loop-holds c = (omega arith, every-none _)
 
 mul-if1 : tie.Need-mul-if1 Inv-loop μ-loop
 mul-if1 c = omega arith
@@ -26,7 +33,10 @@ element-copy-out-if1-2 : tie.Need-element-copy-out-if1-2 Inv-loop μ-loop
 element-copy-out-if1-2 c = omega arith
 
 returns : tie.Need-returns Inv-loop μ-loop
-returns c = tt
+returns c =
+    let t = c .before .before .before .before in
+    let a = t .before .args in
+    sym (every-not _ 8 (t .loop .j) (omega arith) (eqZ-not (elem (a .a .now) (t .loop .j)) (elem (a .b .now) (t .loop .j)) (λ e. c .if1 .taken (ap (ofZ w32) e))))
 
 add-j : tie.Need-add-j Inv-loop μ-loop
 add-j c = omega arith
@@ -35,10 +45,17 @@ loop-less : tie.Need-loop-less Inv-loop μ-loop
 loop-less c = omega arith
 
 loop-again : tie.Need-loop-again Inv-loop μ-loop
-loop-again c = tt
+loop-again c =
+    let t = c .before .before .before .before in
+    let a = t .before .args in
+    let e : elem (a .a .now) (t .loop .j) ≡ elem (a .b .now) (t .loop .j) = sym (read-is w32 _ (c .before .before .if12 .given)) ∙ ap (toZ w32) (c .if1 .left) ∙ read-is w32 _ (c .before .if13 .given) in
+    (omega arith, every-more _ _ (t .loop .inv .1) (rw e (eqZ-same (elem (a .b .now) (t .loop .j)))))
 
 returns-2 : tie.Need-returns-2 Inv-loop μ-loop
-returns-2 c = tt
+returns-2 c =
+    let l = c .before .loop in
+    let e : l .j ≡ 8 = omega arith in
+    sym (rw e at (l .inv .1))
 
 pub same-sums-spec : {M : Type 1} → statement M
 same-sums-spec =

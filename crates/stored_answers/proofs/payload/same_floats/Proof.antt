@@ -1,18 +1,27 @@
--- `payload::same_floats` is safe and ends. The measure is the floats left. Assumes nothing.
-use Prim.Native.Nat.{_-_}
-use lib.ListN.{length}
+-- `payload::same_floats` meets its contract: every float passed is the same. Assumes nothing.
+use mathlib.Core.Path.{_≡_, sym, ap, _∙_}
+use mathlib.Core.Bool.{true}
+use Prim.Native.Nat.{_-_, _*_, _≤_}
+use native.Mathlib.Omega.{arith}
+use lib.ListN.{length, getD}
+use lib.Ieee.{nan, binary32, ofBits}
 use borrow.Author.Needs.{needs}
+use borrow.Author.Tests.{not-true, not-false}
+use Rattle.activations.specs.Whole.{every}
+use Rattle.activations.proofs.Tests.{every-none, every-more, every-not}
+use Rattle.stored_answers.specs.Payload.{floatAt}
+use Rattle.stored_answers.specs.Same.{sameBits, sameFloatAt, sameFloats}
 use Rattle.stored_answers.proofs.payload.same_floats.Statement.{statement}
 use Rattle.stored_answers.proofs.payload.same_floats.Tie as tie
 
 abbrev Inv-loop : tie.InvT-loop
-Inv-loop payload floats i₀ i = Unit {0}
+Inv-loop payload floats i₀ i = (i ≤ length floats) × (every (sameFloatAt payload floats) i ≡ true)
 
 abbrev μ-loop : tie.MeasureT-loop
 μ-loop payload floats i₀ i = length floats - i
 
 loop-holds : tie.Need-loop-holds Inv-loop μ-loop
-loop-holds c = search needs
+loop-holds c = (omega arith, every-none _)
 
 mul-same-bits : tie.Need-mul-same-bits Inv-loop μ-loop
 mul-same-bits c = search needs
@@ -33,7 +42,13 @@ same-bits-requires : tie.Need-same-bits-requires Inv-loop μ-loop
 same-bits-requires c κs = search needs
 
 returns : tie.Need-returns Inv-loop μ-loop
-returns c = search needs
+unfolding sameFloats floatAt
+returns c =
+    let t = c .before .before .before .before .before .before in
+    let f = t .before .before .before .args .floats .now in
+    let v = c .before .before .of-bits .ensures ∙ ap (ofBits binary32) (c .before .before .before .u32-at .ensures) in
+    let r = c .before .same-bits in
+    sym (every-not _ _ (t .loop .i) (omega arith) (sym (r .ensures ∙ ap (sameBits (getD f (t .loop .i) nan)) v) ∙ not-true (r .result) (c .if1 .taken)))
 
 add-i : tie.Need-add-i Inv-loop μ-loop
 add-i c = search needs
@@ -42,10 +57,20 @@ loop-less : tie.Need-loop-less Inv-loop μ-loop
 loop-less c = search needs
 
 loop-again : tie.Need-loop-again Inv-loop μ-loop
-loop-again c = search needs
+unfolding floatAt
+loop-again c =
+    let t = c .before .before .before .before .before .before in
+    let f = t .before .before .before .args .floats .now in
+    let v = c .before .before .of-bits .ensures ∙ ap (ofBits binary32) (c .before .before .before .u32-at .ensures) in
+    let r = c .before .same-bits in
+    (omega arith, every-more _ _ (t .loop .inv .1) (sym (r .ensures ∙ ap (sameBits (getD f (t .loop .i) nan)) v) ∙ not-false (r .result) (c .if1 .left)))
 
 returns-2 : tie.Need-returns-2 Inv-loop μ-loop
-returns-2 c = search needs
+unfolding sameFloats
+returns-2 c =
+    let t = c .before in
+    let e : t .loop .i ≡ length (t .before .before .before .args .floats .now) = omega arith in
+    sym (rw e at (t .loop .inv .1))
 
 pub same-floats-spec : {M : Type 1} → statement M
 same-floats-spec =

@@ -1,0 +1,2 @@
+-- What the judges' tests mean.
+pub mod Means

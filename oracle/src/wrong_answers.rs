@@ -1,0 +1,99 @@
+//! Stored answers that are made wrong, so that a judge of the program `replay` that says of
+//! everything that it is the same is seen.
+use crate::sample::Records;
+
+/// Calls that are judged in one file, and wrong answers: what that file's judges look at, one part
+/// after the other.
+pub struct Family {
+    pub name: &'static str,
+    pub answers: &'static [WrongAnswer],
+}
+
+/// A record of a call, and the part of its payload that is changed.
+pub struct WrongAnswer {
+    pub call: &'static str,
+    record: usize,
+    part: usize,
+}
+
+impl WrongAnswer {
+    /// The record's payload with the part's last number changed by a bit: of a float it is the
+    /// lowest bit of the exponent, so that no NaN stays one.
+    pub fn payload(&self, records: &Records) -> Vec<u8> {
+        let mut parts = records.payloads[self.record].clone();
+        let part = &mut parts[self.part];
+        let at = part.len() - 2;
+        part[at] ^= 0x80;
+        parts.concat()
+    }
+}
+
+const fn wrong(call: &'static str, record: usize, part: usize) -> WrongAnswer {
+    WrongAnswer { call, record, part }
+}
+
+pub static FAMILIES: [Family; 8] = [
+    Family {
+        name: "binary16",
+        answers: &[wrong("f16_to_f32", 0, 1), wrong("f32_to_f16", 0, 1)],
+    },
+    // The number that says no, and the output.
+    Family {
+        name: "block decoders",
+        answers: &[
+            wrong("dequantize_q4_0", 0, 3),
+            wrong("dequantize_q4_0", 0, 4),
+        ],
+    },
+    // The number of a refusal, the number of an answer, and its value; a list's sum, and what is
+    // left of the list.
+    Family {
+        name: "fixed-order sums",
+        answers: &[
+            wrong("canonical_chunk", 1, 5),
+            wrong("canonical_chunk", 2, 5),
+            wrong("canonical_chunk", 2, 6),
+            wrong("canonical_combine", 1, 2),
+            wrong("canonical_combine", 1, 3),
+        ],
+    },
+    // The number, and the output.
+    Family {
+        name: "block quantizers",
+        answers: &[wrong("quantize_q4_0", 0, 3), wrong("quantize_q4_0", 0, 4)],
+    },
+    // A block's number, its scale, a quant and a sum; a dot's number, and its value.
+    Family {
+        name: "activation blocks",
+        answers: &[
+            wrong("quantize_block_q8", 1, 2),
+            wrong("quantize_block_q8", 1, 3),
+            wrong("quantize_block_q8", 1, 4),
+            wrong("quantize_block_q8", 1, 5),
+            wrong("dot_q4k_q8_block", 0, 6),
+            wrong("dot_q4k_q8_block", 0, 7),
+        ],
+    },
+    // The number, and the value.
+    Family {
+        name: "row dots",
+        answers: &[
+            wrong("integer_dot_q4k", 5, 5),
+            wrong("integer_dot_q4k", 5, 6),
+        ],
+    },
+    // The number, the output, and scratch.
+    Family {
+        name: "layers",
+        answers: &[
+            wrong("linear_q4_0_cpu", 5, 9),
+            wrong("linear_q4_0_cpu", 5, 10),
+            wrong("linear_q4_0_cpu", 5, 11),
+        ],
+    },
+    // A piece outside the layer, and a row's dot.
+    Family {
+        name: "stepped",
+        answers: &[wrong("stepped", 2, 7), wrong("stepped", 2, 8)],
+    },
+];
