@@ -1,4 +1,3 @@
 -- What several proofs share, here and above.
 pub mod Unique
 pub mod Signed
-pub mod Truncation

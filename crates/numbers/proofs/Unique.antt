@@ -5,7 +5,6 @@ use Rattle.numbers.proofs.fields.le_u32.Reads as le-u32
 use Rattle.numbers.proofs.fields.signed_byte.Reads as signed-byte
 use Rattle.numbers.proofs.fields.unsigned_byte.Reads as unsigned-byte
 use Rattle.numbers.proofs.steps.magnitude_of.Reads as magnitude-of
-use Rattle.numbers.proofs.steps.truncate.Reads as truncate
 use Rattle.numbers.proofs.steps.whole_to_f32.Reads as whole-to-f32
 
 pub le-u16-once : OneResult le-u16.Post
@@ -22,9 +21,6 @@ unsigned-byte-once κs a x y s t h k = same h k
 
 pub magnitude-of-once : OneResult magnitude-of.Post
 magnitude-of-once κs a x y s t h k = same h k
-
-pub truncate-once : OneResult truncate.Post
-truncate-once κs a x y s t h k = same h k
 
 pub whole-to-f32-once : OneResult whole-to-f32.Post
 whole-to-f32-once κs a x y s t h k = same h k

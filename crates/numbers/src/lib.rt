@@ -7,5 +7,4 @@ pub use fields::le_u32;
 pub use fields::signed_byte;
 pub use fields::unsigned_byte;
 pub use steps::magnitude_of;
-pub use steps::truncate;
 pub use steps::whole_to_f32;
