@@ -12,7 +12,7 @@ use Rattle.sums.specs.Tree.{pairUp, met, tree}
 use Rattle.sums.specs.Lanes.{addTo, lanesFrom, lanes, chunkSum}
 use Rattle.sums.specs.Rows.{chunkAt, rowSum}
 use Rattle.sums.specs.Says.{sumSays}
-use Rattle.activations.specs.Blocks.{blockOf, quantized}
+use Rattle.dots_activation.specs.Blocks.{blockOf, quantized}
 use Rattle.bench_card.specs.Card.{Row, answer, card}
 
 -- what the definitions answer to each row is what the card says

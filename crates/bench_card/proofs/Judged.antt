@@ -18,10 +18,10 @@ use Rattle.readings.specs.Readings.{inverse}
 use Rattle.quantizers.specs.Says.{packedAt, quantizeNo, quantizeSays}
 use Rattle.quantizers.specs.declared.target.Target.the-variants.{Q40}
 use Rattle.sums.specs.Says.{sumSays}
-use Rattle.activations.specs.Whole.{elem, every}
-use Rattle.activations.specs.Blocks.{quantized}
-use Rattle.activations.specs.declared.block.Quantized.{Quantized}
-use Rattle.activations.proofs.Tests.{every-all}
+use Rattle.dots_activation.specs.Whole.{elem, every}
+use Rattle.dots_activation.specs.Blocks.{quantized}
+use Rattle.dots_activation.specs.declared.block.Quantized.{Quantized}
+use Rattle.dots_activation.proofs.Tests.{every-all}
 use Rattle.stored_answers.specs.Same.{saysNumber, sameBytes}
 use Rattle.bench_card.specs.Card.{Row, row, widen, floats, valueOf, writtenBy, firstQuants, answer, card, rowAt, sameNumbers, answered}
 use Rattle.bench_card.specs.Rows.{meant, judged}

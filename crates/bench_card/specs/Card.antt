@@ -14,9 +14,9 @@ use Rattle.readings.specs.Readings.{inverse, quantQ8}
 use Rattle.quantizers.specs.Says.{quantizeSays}
 use Rattle.quantizers.specs.declared.target.Target.the-variants.{Q40}
 use Rattle.sums.specs.Says.{sumSays}
-use Rattle.activations.specs.Whole.{elem, every}
-use Rattle.activations.specs.Blocks.{quantized}
-use Rattle.activations.specs.declared.block.Q8Block.{Q8Block}
+use Rattle.dots_activation.specs.Whole.{elem, every}
+use Rattle.dots_activation.specs.Blocks.{quantized}
+use Rattle.dots_activation.specs.declared.block.Q8Block.{Q8Block}
 
 -- What a row asks. A float is given by its bits, as the card writes it.
 pub data Asked : Type 0 where

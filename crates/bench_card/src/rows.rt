@@ -1,6 +1,6 @@
 // Whether the compiled code answers a row as the row says: a function for each kind of row, and one for all.
 use crate::table::Row;
-use activations::Q8Block;
+use dots_activation::Q8Block;
 use halves::bits_of;
 use halves::f32_to_f16;
 use halves::of_bits;
@@ -100,7 +100,7 @@ fn quantizes(x: u32, y: u32, inverse: u32, a: u8, b: u8, c: u8) -> bool
     let mut readings = [0.0f32; 3];
     readings[0] = of_bits(x);
     readings[1] = of_bits(y);
-    let answer = activations::quantize_block_q8(&readings);
+    let answer = dots_activation::quantize_block_q8(&readings);
     let block = answer.block;
     block_is(block, inverse, a, b, c)
 }

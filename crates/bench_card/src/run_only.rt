@@ -3,7 +3,7 @@ use layouts::FormatK;
 use stored_answers::same_answer;
 ghost use mathlib.Core.Path.{_≡_};
 ghost use Rattle.sums.specs.Says.{dotSays};
-ghost use Rattle.fused.specs.Says.{fusedSays};
+ghost use Rattle.dots_fused.specs.Says.{fusedSays};
 ghost use Rattle.stored_answers.specs.Same.{sameAnswer};
 ghost use Rattle.bench_card.specs.RunOnly.{ones, blockOfOnes};
 
@@ -50,5 +50,9 @@ pub fn against_one_block(x: &[f32], n: usize, number: u32, sum: f32) -> bool
     block[5] = 1;
     block[6] = 1;
     block[7] = 1;
-    same_answer(fused::canonical_dot_q4k_fused(x, &block, n), number, sum)
+    same_answer(
+        dots_fused::canonical_dot_q4k_fused(x, &block, n),
+        number,
+        sum,
+    )
 }

@@ -74,30 +74,35 @@ fn dequantize(format: Format, bytes: &[u8], out: &mut [f32]) -> Outcome
     Outcome::Done
 }
 
+// Q4_0: 32 values to a block of 18 bytes. Each of these calls refuses 6, 1 and 5, in this order.
 pub fn dequantize_q4_0(bytes: &[u8], out: &mut [f32]) -> Outcome
     ensures { λ r. ⌜ (outcomeSays r, now (out .exit)) ≡ dequantizeSays (Format.Of32 Format32.Q40) (now (bytes .entry)) (now (out .entry)) ⌝ }
 {
     dequantize(Format::Of32(Format32::Q40), bytes, out)
 }
 
+// Q5_0: 32 values to a block of 22 bytes.
 pub fn dequantize_q5_0(bytes: &[u8], out: &mut [f32]) -> Outcome
     ensures { λ r. ⌜ (outcomeSays r, now (out .exit)) ≡ dequantizeSays (Format.Of32 Format32.Q50) (now (bytes .entry)) (now (out .entry)) ⌝ }
 {
     dequantize(Format::Of32(Format32::Q50), bytes, out)
 }
 
+// Q8_0: 32 values to a block of 34 bytes.
 pub fn dequantize_q8_0(bytes: &[u8], out: &mut [f32]) -> Outcome
     ensures { λ r. ⌜ (outcomeSays r, now (out .exit)) ≡ dequantizeSays (Format.Of32 Format32.Q80) (now (bytes .entry)) (now (out .entry)) ⌝ }
 {
     dequantize(Format::Of32(Format32::Q80), bytes, out)
 }
 
+// Q4_K: 256 values to a block of 144 bytes.
 pub fn dequantize_q4_k(bytes: &[u8], out: &mut [f32]) -> Outcome
     ensures { λ r. ⌜ (outcomeSays r, now (out .exit)) ≡ dequantizeSays (Format.OfK FormatK.Q4K) (now (bytes .entry)) (now (out .entry)) ⌝ }
 {
     dequantize(Format::OfK(FormatK::Q4K), bytes, out)
 }
 
+// Q6_K: 256 values to a block of 210 bytes.
 pub fn dequantize_q6_k(bytes: &[u8], out: &mut [f32]) -> Outcome
     ensures { λ r. ⌜ (outcomeSays r, now (out .exit)) ≡ dequantizeSays (Format.OfK FormatK.Q6K) (now (bytes .entry)) (now (out .entry)) ⌝ }
 {

@@ -2,9 +2,9 @@
 use mathlib.Core.Path.{_≡_, ap, _∙_}
 use Prim.Native.Nat.{ℕ}
 use Rattle.refusals.specs.Said.{Said}
-use Rattle.handed.specs.Answers.{numberOf, numbered}
+use Rattle.c_answers.specs.Answers.{numberOf, numbered}
 use Rattle.stepped.specs.Says.{RunSaid}
-use Rattle.handed.specs.Counts.{countsLaidOut, runLaidOut}
+use Rattle.c_answers.specs.Counts.{countsLaidOut, runLaidOut}
 
 pub handed : {A : Type 0} (r : ℕ) (said : Said) (left : A) (says : Said × A) → r ≡ numberOf said → (said, left) ≡ says → (r, left) ≡ numbered says
 unfolding numbered

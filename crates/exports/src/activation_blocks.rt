@@ -1,14 +1,15 @@
 // Activation blocks, and the integer dots over them.
-use handed::block_in;
-use handed::lay_out;
-use handed::lay_out_block;
+use c_answers::block_in;
+use c_answers::lay_out;
+use c_answers::lay_out_block;
 ghost use mathlib.Core.Path.{_≡_};
-ghost use Rattle.activations.specs.Blocks.{quantized};
-ghost use Rattle.integer_dots.specs.Dots.{dotQ4kSays, dotQ6kSays};
-ghost use Rattle.integer_dots.specs.Rows.{integerSays};
-ghost use Rattle.handed.specs.Answers.{laidOut};
-ghost use Rattle.handed.specs.Blocks.{blockIn, blockLaidOut};
+ghost use Rattle.dots_activation.specs.Blocks.{quantized};
+ghost use Rattle.dots_integer.specs.Dots.{dotQ4kSays, dotQ6kSays};
+ghost use Rattle.dots_integer.specs.Rows.{integerSays};
+ghost use Rattle.c_answers.specs.Answers.{laidOut};
+ghost use Rattle.c_answers.specs.Blocks.{blockIn, blockLaidOut};
 
+// `dots_activation::quantize_block_q8`, for C.
 #[no_mangle]
 pub extern "C" fn jambharrow_quantize_block_q8(
     x: &[f32],
@@ -18,9 +19,10 @@ pub extern "C" fn jambharrow_quantize_block_q8(
 ) -> u32
     ensures { λ r. ⌜ (r, blockIn (now (d .exit)) (now (qs .exit)) (now (bsums .exit))) ≡ blockLaidOut (quantized (now (x .entry))) (blockIn (now (d .entry)) (now (qs .entry)) (now (bsums .entry))) ⌝ }
 {
-    lay_out_block(activations::quantize_block_q8(x), d, qs, bsums)
+    lay_out_block(dots_activation::quantize_block_q8(x), d, qs, bsums)
 }
 
+// `dots_integer::dot_q4k_q8_block`, for C.
 #[no_mangle]
 pub extern "C" fn jambharrow_dot_q4k_q8_block(
     w: &[u8],
@@ -33,11 +35,12 @@ pub extern "C" fn jambharrow_dot_q4k_q8_block(
     ensures { λ r. ⌜ (r, now (value .exit)) ≡ laidOut (dotQ4kSays (now (w .entry)) (blockIn d (now (qs .entry)) (now (bsums .entry))) n) (now (value .entry)) ⌝ }
 {
     lay_out(
-        integer_dots::dot_q4k_q8_block(w, block_in(d, qs, bsums), n),
+        dots_integer::dot_q4k_q8_block(w, block_in(d, qs, bsums), n),
         value,
     )
 }
 
+// `dots_integer::dot_q6k_q8_block`, for C.
 #[no_mangle]
 pub extern "C" fn jambharrow_dot_q6k_q8_block(
     w: &[u8],
@@ -50,14 +53,15 @@ pub extern "C" fn jambharrow_dot_q6k_q8_block(
     ensures { λ r. ⌜ (r, now (value .exit)) ≡ laidOut (dotQ6kSays (now (w .entry)) (blockIn d (now (qs .entry)) (now (bsums .entry))) n) (now (value .entry)) ⌝ }
 {
     lay_out(
-        integer_dots::dot_q6k_q8_block(w, block_in(d, qs, bsums), n),
+        dots_integer::dot_q6k_q8_block(w, block_in(d, qs, bsums), n),
         value,
     )
 }
 
+// `dots_integer::integer_dot_q4k`, for C.
 #[no_mangle]
 pub extern "C" fn jambharrow_integer_dot_q4k(x: &[f32], w: &[u8], n: usize, value: &mut f32) -> u32
     ensures { λ r. ⌜ (r, now (value .exit)) ≡ laidOut (integerSays (now (x .entry)) (now (w .entry)) n) (now (value .entry)) ⌝ }
 {
-    lay_out(integer_dots::integer_dot_q4k(x, w, n), value)
+    lay_out(dots_integer::integer_dot_q4k(x, w, n), value)
 }

@@ -1,12 +1,13 @@
 // The block decoders.
-use handed::number_of;
+use c_answers::number_of;
 use layouts::Format;
 use layouts::Format32;
 use layouts::FormatK;
 ghost use mathlib.Core.Path.{_≡_};
 ghost use Rattle.decoders.specs.Says.{dequantizeSays};
-ghost use Rattle.handed.specs.Answers.{numbered};
+ghost use Rattle.c_answers.specs.Answers.{numbered};
 
+// `decoders::dequantize_q4_0`, for C.
 #[no_mangle]
 pub extern "C" fn jambharrow_dequantize_q4_0(bytes: &[u8], out: &mut [f32]) -> u32
     ensures { λ r. ⌜ (r, now (out .exit)) ≡ numbered (dequantizeSays (Format.Of32 Format32.Q40) (now (bytes .entry)) (now (out .entry))) ⌝ }
@@ -14,6 +15,7 @@ pub extern "C" fn jambharrow_dequantize_q4_0(bytes: &[u8], out: &mut [f32]) -> u
     number_of(decoders::dequantize_q4_0(bytes, out))
 }
 
+// `decoders::dequantize_q5_0`, for C.
 #[no_mangle]
 pub extern "C" fn jambharrow_dequantize_q5_0(bytes: &[u8], out: &mut [f32]) -> u32
     ensures { λ r. ⌜ (r, now (out .exit)) ≡ numbered (dequantizeSays (Format.Of32 Format32.Q50) (now (bytes .entry)) (now (out .entry))) ⌝ }
@@ -21,6 +23,7 @@ pub extern "C" fn jambharrow_dequantize_q5_0(bytes: &[u8], out: &mut [f32]) -> u
     number_of(decoders::dequantize_q5_0(bytes, out))
 }
 
+// `decoders::dequantize_q8_0`, for C.
 #[no_mangle]
 pub extern "C" fn jambharrow_dequantize_q8_0(bytes: &[u8], out: &mut [f32]) -> u32
     ensures { λ r. ⌜ (r, now (out .exit)) ≡ numbered (dequantizeSays (Format.Of32 Format32.Q80) (now (bytes .entry)) (now (out .entry))) ⌝ }
@@ -28,6 +31,7 @@ pub extern "C" fn jambharrow_dequantize_q8_0(bytes: &[u8], out: &mut [f32]) -> u
     number_of(decoders::dequantize_q8_0(bytes, out))
 }
 
+// `decoders::dequantize_q4_k`, for C.
 #[no_mangle]
 pub extern "C" fn jambharrow_dequantize_q4_k(bytes: &[u8], out: &mut [f32]) -> u32
     ensures { λ r. ⌜ (r, now (out .exit)) ≡ numbered (dequantizeSays (Format.OfK FormatK.Q4K) (now (bytes .entry)) (now (out .entry))) ⌝ }
@@ -35,6 +39,7 @@ pub extern "C" fn jambharrow_dequantize_q4_k(bytes: &[u8], out: &mut [f32]) -> u
     number_of(decoders::dequantize_q4_k(bytes, out))
 }
 
+// `decoders::dequantize_q6_k`, for C.
 #[no_mangle]
 pub extern "C" fn jambharrow_dequantize_q6_k(bytes: &[u8], out: &mut [f32]) -> u32
     ensures { λ r. ⌜ (r, now (out .exit)) ≡ numbered (dequantizeSays (Format.OfK FormatK.Q6K) (now (bytes .entry)) (now (out .entry))) ⌝ }

@@ -1,10 +1,11 @@
 // The block quantizers.
-use handed::number_of;
+use c_answers::number_of;
 use quantizers::Target;
 ghost use mathlib.Core.Path.{_≡_};
 ghost use Rattle.quantizers.specs.Says.{quantizeSays};
-ghost use Rattle.handed.specs.Answers.{numbered};
+ghost use Rattle.c_answers.specs.Answers.{numbered};
 
+// `quantizers::quantize_q4_0`, for C.
 #[no_mangle]
 pub extern "C" fn jambharrow_quantize_q4_0(x: &[f32], out: &mut [u8]) -> u32
     ensures { λ r. ⌜ (r, now (out .exit)) ≡ numbered (quantizeSays Target.Q40 (now (x .entry)) (now (out .entry))) ⌝ }
@@ -12,6 +13,7 @@ pub extern "C" fn jambharrow_quantize_q4_0(x: &[f32], out: &mut [u8]) -> u32
     number_of(quantizers::quantize_q4_0(x, out))
 }
 
+// `quantizers::quantize_q8_0`, for C.
 #[no_mangle]
 pub extern "C" fn jambharrow_quantize_q8_0(x: &[f32], out: &mut [u8]) -> u32
     ensures { λ r. ⌜ (r, now (out .exit)) ≡ numbered (quantizeSays Target.Q80 (now (x .entry)) (now (out .entry))) ⌝ }

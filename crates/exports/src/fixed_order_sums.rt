@@ -1,10 +1,11 @@
 // Fixed-order sums.
-use handed::lay_out;
+use c_answers::lay_out;
 ghost use mathlib.Core.Path.{_≡_};
 ghost use Rattle.sums.specs.Tree.{combined};
 ghost use Rattle.sums.specs.Says.{chunkSays, dotSays, sumSays};
-ghost use Rattle.handed.specs.Answers.{laidOut};
+ghost use Rattle.c_answers.specs.Answers.{laidOut};
 
+// `sums::canonical_chunk`, for C.
 #[no_mangle]
 pub extern "C" fn jambharrow_canonical_chunk(x: &[f32], w: &[f32], value: &mut f32) -> u32
     ensures { λ r. ⌜ (r, now (value .exit)) ≡ laidOut (chunkSays (now (x .entry)) (now (w .entry))) (now (value .entry)) ⌝ }
@@ -12,6 +13,7 @@ pub extern "C" fn jambharrow_canonical_chunk(x: &[f32], w: &[f32], value: &mut f
     lay_out(sums::canonical_chunk(x, w), value)
 }
 
+// `sums::canonical_combine`, for C.
 #[no_mangle]
 pub extern "C" fn jambharrow_canonical_combine(part: &mut [f32]) -> f32
     ensures { λ r. ⌜ (r, now (part .exit)) ≡ combined (now (part .entry)) ⌝ }
@@ -19,6 +21,7 @@ pub extern "C" fn jambharrow_canonical_combine(part: &mut [f32]) -> f32
     sums::canonical_combine(part)
 }
 
+// `sums::canonical_dot_pub`, for C.
 #[no_mangle]
 pub extern "C" fn jambharrow_canonical_dot_pub(
     x: &[f32],
@@ -31,6 +34,7 @@ pub extern "C" fn jambharrow_canonical_dot_pub(
     lay_out(sums::canonical_dot_pub(x, w, n), value)
 }
 
+// `sums::canonical_sum_pub`, for C.
 #[no_mangle]
 pub extern "C" fn jambharrow_canonical_sum_pub(x: &[f32], n: usize, value: &mut f32) -> u32
     ensures { λ r. ⌜ (r, now (value .exit)) ≡ laidOut (sumSays (now (x .entry)) n) (now (value .entry)) ⌝ }

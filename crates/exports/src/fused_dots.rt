@@ -1,10 +1,11 @@
 // The fused dots.
-use handed::lay_out;
+use c_answers::lay_out;
 use layouts::FormatK;
 ghost use mathlib.Core.Path.{_≡_};
-ghost use Rattle.fused.specs.Says.{fusedSays};
-ghost use Rattle.handed.specs.Answers.{laidOut};
+ghost use Rattle.dots_fused.specs.Says.{fusedSays};
+ghost use Rattle.c_answers.specs.Answers.{laidOut};
 
+// `dots_fused::canonical_dot_q4k_fused`, for C.
 #[no_mangle]
 pub extern "C" fn jambharrow_canonical_dot_q4k_fused(
     x: &[f32],
@@ -14,9 +15,10 @@ pub extern "C" fn jambharrow_canonical_dot_q4k_fused(
 ) -> u32
     ensures { λ r. ⌜ (r, now (value .exit)) ≡ laidOut (fusedSays FormatK.Q4K (now (x .entry)) (now (w .entry)) n) (now (value .entry)) ⌝ }
 {
-    lay_out(fused::canonical_dot_q4k_fused(x, w, n), value)
+    lay_out(dots_fused::canonical_dot_q4k_fused(x, w, n), value)
 }
 
+// `dots_fused::q6k_fused_f32_dot`, for C.
 #[no_mangle]
 pub extern "C" fn jambharrow_q6k_fused_f32_dot(
     x: &[f32],
@@ -26,5 +28,5 @@ pub extern "C" fn jambharrow_q6k_fused_f32_dot(
 ) -> u32
     ensures { λ r. ⌜ (r, now (value .exit)) ≡ laidOut (fusedSays FormatK.Q6K (now (x .entry)) (now (w .entry)) n) (now (value .entry)) ⌝ }
 {
-    lay_out(fused::q6k_fused_f32_dot(x, w, n), value)
+    lay_out(dots_fused::q6k_fused_f32_dot(x, w, n), value)
 }

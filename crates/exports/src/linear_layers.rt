@@ -1,16 +1,17 @@
 // The layers.
-use handed::number_of;
+use c_answers::number_of;
 use held_rows::Meeting;
 use layouts::Format;
 use layouts::Format32;
 use layouts::FormatK;
 ghost use mathlib.Core.Path.{_≡_};
-ghost use Rattle.shapes.specs.Shapes.{shape};
-ghost use Rattle.fused_layers.specs.Says.{fusedLayerSays};
-ghost use Rattle.cpu_layers.specs.Says.{cpuSays};
-ghost use Rattle.integer_layers.specs.Says.{integerLayerSays};
-ghost use Rattle.handed.specs.Answers.{numbered};
+ghost use Rattle.layers_shape.specs.Shapes.{shape};
+ghost use Rattle.layers_fused.specs.Says.{fusedLayerSays};
+ghost use Rattle.layers_cpu.specs.Says.{cpuSays};
+ghost use Rattle.layers_integer.specs.Says.{integerLayerSays};
+ghost use Rattle.c_answers.specs.Answers.{numbered};
 
+// `layers_fused::linear_q4_k_fused`, for C.
 #[no_mangle]
 pub extern "C" fn jambharrow_linear_q4_k_fused(
     x: &[f32],
@@ -22,9 +23,10 @@ pub extern "C" fn jambharrow_linear_q4_k_fused(
 ) -> u32
     ensures { λ r. ⌜ (r, now (y .exit)) ≡ numbered (fusedLayerSays FormatK.Q4K (shape batch «in_feat» «out_feat») (now (x .entry)) (now (w .entry)) (now (y .entry))) ⌝ }
 {
-    number_of(fused_layers::linear_q4_k_fused(x, w, y, batch, in_feat, out_feat))
+    number_of(layers_fused::linear_q4_k_fused(x, w, y, batch, in_feat, out_feat))
 }
 
+// `layers_fused::linear_q6_k_fused`, for C.
 #[no_mangle]
 pub extern "C" fn jambharrow_linear_q6_k_fused(
     x: &[f32],
@@ -36,9 +38,10 @@ pub extern "C" fn jambharrow_linear_q6_k_fused(
 ) -> u32
     ensures { λ r. ⌜ (r, now (y .exit)) ≡ numbered (fusedLayerSays FormatK.Q6K (shape batch «in_feat» «out_feat») (now (x .entry)) (now (w .entry)) (now (y .entry))) ⌝ }
 {
-    number_of(fused_layers::linear_q6_k_fused(x, w, y, batch, in_feat, out_feat))
+    number_of(layers_fused::linear_q6_k_fused(x, w, y, batch, in_feat, out_feat))
 }
 
+// `layers_integer::linear_q4_k_integer`, for C.
 #[no_mangle]
 pub extern "C" fn jambharrow_linear_q4_k_integer(
     x: &[f32],
@@ -50,9 +53,10 @@ pub extern "C" fn jambharrow_linear_q4_k_integer(
 ) -> u32
     ensures { λ r. ⌜ (r, now (y .exit)) ≡ numbered (integerLayerSays FormatK.Q4K Meeting.Tree (shape batch «in_feat» «out_feat») (now (x .entry)) (now (w .entry)) (now (y .entry))) ⌝ }
 {
-    number_of(integer_layers::linear_q4_k_integer(x, w, y, batch, in_feat, out_feat))
+    number_of(layers_integer::linear_q4_k_integer(x, w, y, batch, in_feat, out_feat))
 }
 
+// `layers_integer::linear_q6_k_integer`, for C.
 #[no_mangle]
 pub extern "C" fn jambharrow_linear_q6_k_integer(
     x: &[f32],
@@ -64,9 +68,10 @@ pub extern "C" fn jambharrow_linear_q6_k_integer(
 ) -> u32
     ensures { λ r. ⌜ (r, now (y .exit)) ≡ numbered (integerLayerSays FormatK.Q6K Meeting.Tree (shape batch «in_feat» «out_feat») (now (x .entry)) (now (w .entry)) (now (y .entry))) ⌝ }
 {
-    number_of(integer_layers::linear_q6_k_integer(x, w, y, batch, in_feat, out_feat))
+    number_of(layers_integer::linear_q6_k_integer(x, w, y, batch, in_feat, out_feat))
 }
 
+// `layers_integer::linear_q4_k_integer_rs`, for C.
 #[no_mangle]
 pub extern "C" fn jambharrow_linear_q4_k_integer_rs(
     x: &[f32],
@@ -78,9 +83,10 @@ pub extern "C" fn jambharrow_linear_q4_k_integer_rs(
 ) -> u32
     ensures { λ r. ⌜ (r, now (y .exit)) ≡ numbered (integerLayerSays FormatK.Q4K Meeting.Running (shape batch «in_feat» «out_feat») (now (x .entry)) (now (w .entry)) (now (y .entry))) ⌝ }
 {
-    number_of(integer_layers::linear_q4_k_integer_rs(x, w, y, batch, in_feat, out_feat))
+    number_of(layers_integer::linear_q4_k_integer_rs(x, w, y, batch, in_feat, out_feat))
 }
 
+// `layers_integer::linear_q6_k_integer_rs`, for C.
 #[no_mangle]
 pub extern "C" fn jambharrow_linear_q6_k_integer_rs(
     x: &[f32],
@@ -92,9 +98,10 @@ pub extern "C" fn jambharrow_linear_q6_k_integer_rs(
 ) -> u32
     ensures { λ r. ⌜ (r, now (y .exit)) ≡ numbered (integerLayerSays FormatK.Q6K Meeting.Running (shape batch «in_feat» «out_feat») (now (x .entry)) (now (w .entry)) (now (y .entry))) ⌝ }
 {
-    number_of(integer_layers::linear_q6_k_integer_rs(x, w, y, batch, in_feat, out_feat))
+    number_of(layers_integer::linear_q6_k_integer_rs(x, w, y, batch, in_feat, out_feat))
 }
 
+// `layers_cpu::linear_q4_k_cpu`, for C.
 #[no_mangle]
 pub extern "C" fn jambharrow_linear_q4_k_cpu(
     x: &[f32],
@@ -107,9 +114,10 @@ pub extern "C" fn jambharrow_linear_q4_k_cpu(
 ) -> u32
     ensures { λ r. ⌜ (r, (now (y .exit), now (scratch .exit))) ≡ numbered (cpuSays (Format.OfK FormatK.Q4K) (shape batch «in_feat» «out_feat») (now (x .entry)) (now (w .entry)) (now (y .entry)) (now (scratch .entry))) ⌝ }
 {
-    number_of(cpu_layers::linear_q4_k_cpu(x, w, y, scratch, batch, in_feat, out_feat))
+    number_of(layers_cpu::linear_q4_k_cpu(x, w, y, scratch, batch, in_feat, out_feat))
 }
 
+// `layers_cpu::linear_q6_k_cpu`, for C.
 #[no_mangle]
 pub extern "C" fn jambharrow_linear_q6_k_cpu(
     x: &[f32],
@@ -122,9 +130,10 @@ pub extern "C" fn jambharrow_linear_q6_k_cpu(
 ) -> u32
     ensures { λ r. ⌜ (r, (now (y .exit), now (scratch .exit))) ≡ numbered (cpuSays (Format.OfK FormatK.Q6K) (shape batch «in_feat» «out_feat») (now (x .entry)) (now (w .entry)) (now (y .entry)) (now (scratch .entry))) ⌝ }
 {
-    number_of(cpu_layers::linear_q6_k_cpu(x, w, y, scratch, batch, in_feat, out_feat))
+    number_of(layers_cpu::linear_q6_k_cpu(x, w, y, scratch, batch, in_feat, out_feat))
 }
 
+// `layers_cpu::linear_q4_0_cpu`, for C.
 #[no_mangle]
 pub extern "C" fn jambharrow_linear_q4_0_cpu(
     x: &[f32],
@@ -137,5 +146,5 @@ pub extern "C" fn jambharrow_linear_q4_0_cpu(
 ) -> u32
     ensures { λ r. ⌜ (r, (now (y .exit), now (scratch .exit))) ≡ numbered (cpuSays (Format.Of32 Format32.Q40) (shape batch «in_feat» «out_feat») (now (x .entry)) (now (w .entry)) (now (y .entry)) (now (scratch .entry))) ⌝ }
 {
-    number_of(cpu_layers::linear_q4_0_cpu(x, w, y, scratch, batch, in_feat, out_feat))
+    number_of(layers_cpu::linear_q4_0_cpu(x, w, y, scratch, batch, in_feat, out_feat))
 }

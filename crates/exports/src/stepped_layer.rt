@@ -1,14 +1,15 @@
 // The stepped layer.
-use handed::lay_out_counts;
-use handed::number_of;
+use c_answers::lay_out_counts;
+use c_answers::number_of;
 use stepped_shape::Layer;
 ghost use mathlib.Core.Path.{_≡_};
 ghost use Rattle.stepped_shape.specs.Layer.{layerOf};
 ghost use Rattle.stepped_pieces.specs.Pieces.{pieceSays};
 ghost use Rattle.stepped.specs.Says.{openSays, runSays, closeSays};
-ghost use Rattle.handed.specs.Answers.{numbered};
-ghost use Rattle.handed.specs.Counts.{runLaidOut};
+ghost use Rattle.c_answers.specs.Answers.{numbered};
+ghost use Rattle.c_answers.specs.Counts.{runLaidOut};
 
+// `stepped::open`, for C.
 #[no_mangle]
 pub extern "C" fn jambharrow_open(
     format: u8,
@@ -27,6 +28,7 @@ pub extern "C" fn jambharrow_open(
     number_of(stepped::open(layer, slots, marks))
 }
 
+// `stepped_pieces::piece`, for C.
 #[no_mangle]
 pub extern "C" fn jambharrow_piece(
     format: u8,
@@ -49,6 +51,7 @@ pub extern "C" fn jambharrow_piece(
     number_of(stepped_pieces::piece(layer, w, x, row, chunk, slots, marks))
 }
 
+// `stepped::run`, for C.
 #[no_mangle]
 pub extern "C" fn jambharrow_run(
     format: u8,
@@ -72,6 +75,7 @@ pub extern "C" fn jambharrow_run(
     lay_out_counts(stepped::run(layer, w, x, budget, slots, marks), done, left)
 }
 
+// `stepped::close`, for C.
 #[no_mangle]
 pub extern "C" fn jambharrow_close(
     format: u8,

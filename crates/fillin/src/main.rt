@@ -4,7 +4,7 @@
 const STATUS: i32 = 3;
 
 fn main() {
-    let ending = desk::fill_in(desk::standard());
+    let ending = fillin_loop::fill_in(fillin_loop::standard());
     if os::arg_count() > 1 {
         io::print_decimal(STATUS, ending.status());
     }

@@ -1,5 +1,5 @@
 // The answer to one file: it is stored, and the program's loop reads it back.
-use desk::Desk;
+use fillin_loop::Desk;
 use libc::STDOUT_FILENO;
 ghost use Prim.Native.Nat.{_<_};
 
@@ -21,7 +21,7 @@ fn answer(number: u64, desk: Desk) -> u64
     requires { ⌜ 0 < desk .most ⌝ }
 {
     write_field(b"file ", number);
-    let ending = desk::fill_in(desk);
+    let ending = fillin_loop::fill_in(desk);
     write_field(b"status ", ending.status());
     std::num::wrapping_add_u64(number, 1)
 }

@@ -1,4 +1,4 @@
 // `fillin` on an empty input.
 fn main() {
-    desk::fill_in(desk::standard());
+    fillin_loop::fill_in(fillin_loop::standard());
 }

@@ -1,4 +1,4 @@
 // `fillin` on the largest layer in both formats, and on many windows.
 fn main() {
-    desk::fill_in(desk::standard());
+    fillin_loop::fill_in(fillin_loop::standard());
 }

@@ -12,9 +12,9 @@ use lib.Ieee.{Float, nan}
 use Rattle.memory.specs.Lists.{part}
 use Rattle.memory.proofs.Filled.{length-table}
 use Rattle.memory.proofs.Laid.{part-before, part-laid}
-use Rattle.activations.specs.declared.block.Q8Block.{Q8Block}
-use Rattle.activations.specs.Blocks.{heldBlock, blockOf, SmallSums}
-use Rattle.integer_dots.proofs.Bounds.{small-sums}
+use Rattle.dots_activation.specs.declared.block.Q8Block.{Q8Block}
+use Rattle.dots_activation.specs.Blocks.{heldBlock, blockOf, SmallSums}
+use Rattle.dots_integer.proofs.Bounds.{small-sums}
 use Rattle.held_rows.specs.Held.{blockHeld, HeldRoom, HeldRow, Holds}
 
 pub block-long : (x : List Float) → (length (blockOf x .qs) ≡ 256) × (length (blockOf x .bsums) ≡ 8)

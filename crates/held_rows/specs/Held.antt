@@ -10,9 +10,9 @@ use Rattle.layouts.specs.Formats.{bytesK}
 use Rattle.layouts.specs.Weights.{block}
 use Rattle.layouts.specs.declared.format.Format.the-variants.{OfK}
 use Rattle.layouts.specs.declared.format.FormatK.{FormatK}
-use Rattle.activations.specs.declared.block.Q8Block.{Q8Block}
-use Rattle.activations.specs.Blocks.{heldBlock, blockOf, SmallSums}
-use Rattle.integer_dots.specs.Dots.{blockDot}
+use Rattle.dots_activation.specs.declared.block.Q8Block.{Q8Block}
+use Rattle.dots_activation.specs.Blocks.{heldBlock, blockOf, SmallSums}
+use Rattle.dots_integer.specs.Dots.{blockDot}
 use Rattle.held_rows.specs.declared.meeting.Meeting.{Meeting}
 use Rattle.held_rows.specs.Meets.{meets}
 

@@ -8,7 +8,7 @@ ghost use Prim.Native.Nat.{_+_, _*_, _/_, _≤_, _<_};
 ghost use lib.ListN.{length};
 ghost use Rattle.refusals.specs.Sizes.{mostIn};
 ghost use Rattle.layouts.specs.Formats.{bytesK};
-ghost use Rattle.integer_dots.specs.Dots.{blockDot};
+ghost use Rattle.dots_integer.specs.Dots.{blockDot};
 ghost use Rattle.held_rows.specs.Meets.{meets};
 ghost use Rattle.held_rows.specs.Held.{blockHeld, heldDot, HeldRoom, HeldRow, Holds};
 
@@ -41,7 +41,7 @@ pub fn hold_row(x: &[f32], ds: &mut [f32], qs: &mut [i8], sums: &mut [i32])
     for t in 0..blocks {
         let from = 256 * t;
         let to = from + 256;
-        let block = activations::quantized_block(&x[from..to]);
+        let block = dots_activation::quantized_block(&x[from..to]);
         ds[t] = block.d;
         let quants = block.qs;
         lay_quants(&quants, &mut qs[from..to]);
@@ -63,9 +63,9 @@ fn held_dot(format: FormatK, w: &[u8], t: usize, ds: &[f32], qs: &[i8], sums: &[
         FormatK::Q4K => {
             let at = 8 * t;
             let end = at + 8;
-            integer_dots::held_dot_q4k(w, ds[t], &qs[from..to], &sums[at..end])
+            dots_integer::held_dot_q4k(w, ds[t], &qs[from..to], &sums[at..end])
         }
-        FormatK::Q6K => integer_dots::held_dot_q6k(w, ds[t], &qs[from..to]),
+        FormatK::Q6K => dots_integer::held_dot_q6k(w, ds[t], &qs[from..to]),
     }
 }
 

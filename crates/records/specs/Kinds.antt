@@ -8,7 +8,7 @@ use lib.Ieee.{Float, binary32, ofBits}
 use Rattle.refusals.specs.Refusals.{none, given, orElse}
 use Rattle.numbers.specs.Fields.{le32}
 use Rattle.layouts.specs.Formats.{knownFormat, formatOf}
-use Rattle.shapes.specs.Shapes.{rowBytes}
+use Rattle.layers_shape.specs.Shapes.{rowBytes}
 
 -- ---- Kind 1, layer: format byte (4 or 6), u32 in_feat (1 to 2,048), u32 out_feat (1 to 16), then exactly the weights
 

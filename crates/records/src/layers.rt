@@ -51,7 +51,7 @@ fn weight_bytes(format: u8, in_feat: usize, out_feat: usize) -> usize
     requires { ⌜ (knownFormat format ≡ true) × («in_feat» ≤ 2048) × («out_feat» ≤ 16) ⌝ }
     ensures { λ r. ⌜ r ≡ weightBytes format «in_feat» «out_feat» ⌝ }
 {
-    out_feat * shapes::row_bytes(layouts::format_of(format), in_feat)
+    out_feat * layers_shape::row_bytes(layouts::format_of(format), in_feat)
 }
 
 // Why a layer's payload is refused; 0 where it is not.

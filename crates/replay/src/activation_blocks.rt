@@ -2,7 +2,7 @@
 use crate::blocks::BLOCK;
 use crate::blocks::read_block;
 use crate::blocks::same_blocks;
-use activations::Q8Block;
+use dots_activation::Q8Block;
 use layouts::FormatK;
 use refusals::Answer;
 use stored_answers::Finding;
@@ -15,7 +15,7 @@ const READINGS: usize = 257;
 // Our block of readings whose bits stand in these bytes, read into x, beside theirs.
 fn judge_block(bytes: &[u8], x: &mut [f32], number: u32, theirs: Q8Block) -> Finding {
     read_floats(bytes, x);
-    let ours = activations::quantize_block_q8(x);
+    let ours = dots_activation::quantize_block_q8(x);
     let block = ours.block;
     Finding::of_same(ours.no == number && same_blocks(block, theirs))
 }
@@ -39,8 +39,8 @@ fn judge_quantize_block_q8(payload: &[u8]) -> Finding {
 
 fn block_dot(format: FormatK, w: &[u8], xq: Q8Block, n: usize) -> Answer {
     match format {
-        FormatK::Q4K => integer_dots::dot_q4k_q8_block(w, xq, n),
-        FormatK::Q6K => integer_dots::dot_q6k_q8_block(w, xq, n),
+        FormatK::Q4K => dots_integer::dot_q4k_q8_block(w, xq, n),
+        FormatK::Q6K => dots_integer::dot_q6k_q8_block(w, xq, n),
     }
 }
 
@@ -59,6 +59,7 @@ fn judge_block_dot(format: FormatK, payload: &[u8]) -> Finding {
     Finding::of_answer(block_dot(format, &payload[8..block], xq, n), number, value)
 }
 
+// A stored answer of the call that has this tag.
 pub fn judge_activation_block(tag: u8, payload: &[u8]) -> Finding {
     match tag {
         13 => judge_quantize_block_q8(payload),

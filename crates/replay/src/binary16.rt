@@ -1,6 +1,7 @@
 // Binary16. A payload is the half and the bits of its float, or the bits of a float and its half.
 use stored_answers::Finding;
 
+// A stored answer of the call that has this tag.
 pub fn judge_binary16(tag: u8, payload: &[u8]) -> Finding {
     match tag {
         0 => judge_f16_to_f32(payload),

@@ -69,6 +69,7 @@ fn judge_dequantize(format: Format, payload: &[u8]) -> Finding {
     )
 }
 
+// A stored answer of the call that has this tag.
 pub fn judge_block_decoder(tag: u8, payload: &[u8]) -> Finding {
     match tag {
         2 => judge_dequantize(Format::Of32(Format32::Q40), payload),

@@ -63,6 +63,7 @@ fn judge_quantize(target: Target, payload: &[u8]) -> Finding {
     )
 }
 
+// A stored answer of the call that has this tag.
 pub fn judge_block_quantizer(tag: u8, payload: &[u8]) -> Finding {
     match tag {
         11 => judge_quantize(Target::Q40, payload),

@@ -1,11 +1,11 @@
 // An activation block as it stands in a payload: its scale, its quants, a byte each, and its sums, each as the bits of
 // an i32.
-use activations::Q8Block;
+use dots_activation::Q8Block;
 use stored_answers::byte_at;
 use stored_answers::same_bits;
 use stored_answers::u32_at;
 ghost use mathlib.Core.Path.{_≡_};
-ghost use Rattle.activations.specs.Whole.{elem, eqZ, every};
+ghost use Rattle.dots_activation.specs.Whole.{elem, eqZ, every};
 
 // The bytes of a block.
 pub const BLOCK: usize = 292;

@@ -93,6 +93,7 @@ fn judge_canonical_combine(payload: &[u8]) -> Finding {
     judge_list(&payload[4..end], &mut list[..len], sum, &payload[left..])
 }
 
+// A stored answer of the call that has this tag.
 pub fn judge_fixed_order_sum(tag: u8, payload: &[u8]) -> Finding {
     match tag {
         7 => judge_rows(OfRows::Chunk, payload),

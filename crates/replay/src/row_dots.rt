@@ -15,9 +15,9 @@ enum RowDot {
 
 fn answer(dot: RowDot, x: &[f32], w: &[u8], n: usize) -> Answer {
     match dot {
-        RowDot::IntegerQ4k => integer_dots::integer_dot_q4k(x, w, n),
-        RowDot::FusedQ4k => fused::canonical_dot_q4k_fused(x, w, n),
-        RowDot::FusedQ6k => fused::q6k_fused_f32_dot(x, w, n),
+        RowDot::IntegerQ4k => dots_integer::integer_dot_q4k(x, w, n),
+        RowDot::FusedQ4k => dots_fused::canonical_dot_q4k_fused(x, w, n),
+        RowDot::FusedQ6k => dots_fused::q6k_fused_f32_dot(x, w, n),
     }
 }
 
@@ -53,6 +53,7 @@ fn judge_row(dot: RowDot, payload: &[u8]) -> Finding {
     Finding::of_answer(ours, number, value)
 }
 
+// A stored answer of the call that has this tag.
 pub fn judge_row_dot(tag: u8, payload: &[u8]) -> Finding {
     match tag {
         16 => judge_row(RowDot::IntegerQ4k, payload),

@@ -2,8 +2,8 @@
 // are, the readings, the bytes, the number that says no, 0 where there is none, and what then stands in the output and in scratch.
 mod stepped_layer;
 
+use layers_shape::Shape;
 use refusals::Outcome;
-use shapes::Shape;
 pub use stepped_layer::judge_history;
 use stored_answers::Finding;
 use stored_answers::STOOD;
@@ -42,12 +42,12 @@ fn plain(layer: Layer, x: &[f32], w: &[u8], y: &mut [f32], s: Shape) -> Outcome 
     let n = s.in_feat;
     let outs = s.out_feat;
     match layer {
-        Layer::Q4kFused => fused_layers::linear_q4_k_fused(x, w, y, batch, n, outs),
-        Layer::Q6kFused => fused_layers::linear_q6_k_fused(x, w, y, batch, n, outs),
-        Layer::Q4kInteger => integer_layers::linear_q4_k_integer(x, w, y, batch, n, outs),
-        Layer::Q6kInteger => integer_layers::linear_q6_k_integer(x, w, y, batch, n, outs),
-        Layer::Q4kIntegerRs => integer_layers::linear_q4_k_integer_rs(x, w, y, batch, n, outs),
-        Layer::Q6kIntegerRs => integer_layers::linear_q6_k_integer_rs(x, w, y, batch, n, outs),
+        Layer::Q4kFused => layers_fused::linear_q4_k_fused(x, w, y, batch, n, outs),
+        Layer::Q6kFused => layers_fused::linear_q6_k_fused(x, w, y, batch, n, outs),
+        Layer::Q4kInteger => layers_integer::linear_q4_k_integer(x, w, y, batch, n, outs),
+        Layer::Q6kInteger => layers_integer::linear_q6_k_integer(x, w, y, batch, n, outs),
+        Layer::Q4kIntegerRs => layers_integer::linear_q4_k_integer_rs(x, w, y, batch, n, outs),
+        Layer::Q6kIntegerRs => layers_integer::linear_q6_k_integer_rs(x, w, y, batch, n, outs),
     }
 }
 
@@ -63,9 +63,9 @@ fn cpu(
     let n = s.in_feat;
     let outs = s.out_feat;
     match layer {
-        CpuLayer::Q4k => cpu_layers::linear_q4_k_cpu(x, w, y, scratch, batch, n, outs),
-        CpuLayer::Q6k => cpu_layers::linear_q6_k_cpu(x, w, y, scratch, batch, n, outs),
-        CpuLayer::Q40 => cpu_layers::linear_q4_0_cpu(x, w, y, scratch, batch, n, outs),
+        CpuLayer::Q4k => layers_cpu::linear_q4_k_cpu(x, w, y, scratch, batch, n, outs),
+        CpuLayer::Q6k => layers_cpu::linear_q6_k_cpu(x, w, y, scratch, batch, n, outs),
+        CpuLayer::Q40 => layers_cpu::linear_q4_0_cpu(x, w, y, scratch, batch, n, outs),
     }
 }
 
@@ -149,6 +149,7 @@ fn judge(call: Call, payload: &[u8]) -> Finding {
     )
 }
 
+// A stored answer of the layer that has this tag.
 pub fn judge_layer(tag: u8, payload: &[u8]) -> Finding {
     match tag {
         19 => judge(Call::Plain(Layer::Q4kFused), payload),

@@ -101,6 +101,7 @@ fn judge_calls(
     Finding::of_same(plays(l, w, x, named, y) && same_floats(wanted, y))
 }
 
+// A stored history of the stepped layer: what its calls say, and the outputs that they leave.
 pub fn judge_history(payload: &[u8]) -> Finding {
     let format = byte_at(payload, 0);
     let in_feat = u32_at(payload, 4) as usize;

@@ -18,7 +18,7 @@ use Rattle.layouts.specs.Weights.{weightAt}
 use Rattle.layouts.specs.declared.format.Format.the-variants.{OfK}
 use Rattle.sums.specs.Tree.{tree}
 use Rattle.sums.specs.Rows.{rowSum}
-use Rattle.fused.proofs.Decoded.{row-decoded}
+use Rattle.dots_fused.proofs.Decoded.{row-decoded}
 use Rattle.stepped_shape.specs.declared.shape.Layer.{Layer}
 use Rattle.stepped_shape.specs.Layer.{chunks, pieces, place, rowOf, openCount, openOf, openInRow}
 use Rattle.stepped_shape.specs.Refusals.{openNo, workNo, pieceNo, closeNo}

@@ -16,8 +16,8 @@ use Rattle.sums.specs.Tree.{tree}
 use Rattle.sums.specs.Says.{dotSays}
 use Rattle.sums.proofs.TreeLaws.{tree-none}
 use Rattle.sums.proofs.RowLaws.{dot-answers}
-use Rattle.fused.specs.Says.{fusedSays}
-use Rattle.fused.proofs.Decoded.{dot-of-weights}
+use Rattle.dots_fused.specs.Says.{fusedSays}
+use Rattle.dots_fused.proofs.Decoded.{dot-of-weights}
 use Rattle.stepped_shape.specs.declared.shape.Layer.{Layer}
 use Rattle.stepped_shape.specs.Layer.{chunks, pieces, layerRowBytes, rowOf}
 use Rattle.stepped_shape.specs.Ready.{LayerReady}

@@ -7,7 +7,7 @@ use Rattle.refusals.specs.Said.{Said}
 use Rattle.refusals.specs.Refusals.{carriedOut}
 use Rattle.layouts.specs.Formats.{formatOf}
 use Rattle.sums.specs.Rows.{chunkAt}
-use Rattle.fused_chunks.specs.Terms.{terms}
+use Rattle.dots_fused_chunk.specs.Terms.{terms}
 use Rattle.stepped_shape.specs.declared.shape.Layer.{Layer}
 use Rattle.stepped_shape.specs.Layer.{place, rowOf}
 use Rattle.stepped_shape.specs.Refusals.{pieceNo}

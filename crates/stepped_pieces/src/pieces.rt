@@ -18,7 +18,7 @@ fn chunk_sum(l: Layer, w: &[u8], x: &[f32], row: usize, chunk: usize) -> f32
     let size = row_bytes(l);
     let from = row * size;
     let to = from + size;
-    fused_chunks::chunk_dot(
+    dots_fused_chunk::chunk_dot(
         layouts::format_of(l.format),
         x,
         &w[from..to],

@@ -15,8 +15,8 @@ use Rattle.layouts.specs.Formats.{knownFormat, formatOf}
 use Rattle.layouts.specs.Weights.{valuesOf}
 use Rattle.layouts.specs.declared.format.FormatK.{FormatK}
 use Rattle.layouts.specs.declared.format.Format.the-variants.{OfK}
-use Rattle.shapes.proofs.Fits.{row-small}
-use Rattle.shapes.proofs.Rows.{row-values}
+use Rattle.layers_shape.proofs.Fits.{row-small}
+use Rattle.layers_shape.proofs.Rows.{row-values}
 use Rattle.stepped_shape.specs.declared.shape.Layer.{Layer}
 use Rattle.stepped_shape.specs.Layer.{chunks, pieces, place, layerRowBytes, weightNeed, openInRow}
 use Rattle.stepped_shape.specs.Refusals.{shapeNo, roomNo, openNo, workNo, pieceNo, closeNo}

@@ -6,7 +6,7 @@ use lib.Dec.{eqb}
 use lib.ListN.{take}
 use Rattle.memory.specs.Lists.{part}
 use Rattle.layouts.specs.Formats.{formatOf}
-use Rattle.shapes.specs.Shapes.{rowBytes}
+use Rattle.layers_shape.specs.Shapes.{rowBytes}
 use Rattle.sums.specs.Rows.{chunksIn}
 use Rattle.stepped_shape.specs.declared.shape.Layer.{Layer}
 

@@ -42,7 +42,7 @@ pub fn row_bytes(l: Layer) -> usize
     requires { ⌜ shapeNo l ≡ none ⌝ }
     ensures { λ r. ⌜ r ≡ layerRowBytes l ⌝ }
 {
-    shapes::row_bytes(layouts::format_of(l.format), l.in_feat)
+    layers_shape::row_bytes(layouts::format_of(l.format), l.in_feat)
 }
 
 // The bytes of all rows' weights.

@@ -6,7 +6,7 @@ use lib.Dec.{ltb, eqb}
 use lib.ListN.{length, getD}
 use lib.Ieee.{Float, nan, binary32, toBits}
 use Rattle.refusals.specs.Said.{Said, value, done, refused}
-use Rattle.activations.specs.Whole.{every}
+use Rattle.dots_activation.specs.Whole.{every}
 use Rattle.stored_answers.specs.Payload.{floatAt}
 use Rattle.stored_answers.specs.declared.findings.Finding.{Finding}
 use Rattle.stored_answers.specs.declared.findings.Finding.the-variants.{Same, Differs}

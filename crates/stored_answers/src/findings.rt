@@ -23,6 +23,7 @@ pub enum Finding {
 }
 
 impl Finding {
+    // Whether ours is theirs, as a finding.
     pub fn of_same(same: bool) -> Self
         ensures { λ r. ⌜ r ≡ found same ⌝ }
     {
@@ -33,6 +34,7 @@ impl Finding {
         }
     }
 
+    // Of two floats: the same bits, or both NaN.
     pub fn of_floats(ours: f32, theirs: f32) -> Self
         ensures { λ r. ⌜ r ≡ found (sameBits ours theirs) ⌝ }
     {

@@ -11,7 +11,7 @@ use borrow.Author.Tests.{eq-eqb, ne-eqb}
 use Rattle.memory.specs.Lists.{table}
 use Rattle.numbers.specs.Fields.{byteOf}
 use Rattle.numbers.proofs.Signed.{read-is}
-use Rattle.activations.specs.Whole.{elem, every}
+use Rattle.dots_activation.specs.Whole.{elem, every}
 use Rattle.bench_card.specs.Card.{sameNumbers}
 use Rattle.bench_card.proofs.rows.block_is.Statement.{statement}
 use Rattle.bench_card.proofs.rows.block_is.Tie as tie

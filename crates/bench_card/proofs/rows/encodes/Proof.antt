@@ -1,6 +1,6 @@
 -- `rows::encodes` meets its contract. Assumes nothing.
 use borrow.Author.Needs.{needs}
-use Rattle.activations.specs.Whole.{every}
+use Rattle.dots_activation.specs.Whole.{every}
 use Rattle.bench_card.specs.Card.{answer, sameNumbers, answered}
 use Rattle.bench_card.specs.Rows.{meant, judged}
 use Rattle.bench_card.proofs.rows.encodes.Statement.{statement}

@@ -4,7 +4,7 @@ use mathlib.Core.List.{[], _∷_}
 use lib.Ieee.{Float, binary32, ofBits}
 use borrow.Author.Needs.{needs}
 use Rattle.numbers.specs.Steps.{nought}
-use Rattle.activations.specs.Blocks.{quantized}
+use Rattle.dots_activation.specs.Blocks.{quantized}
 use Rattle.bench_card.proofs.Judged.{quantised}
 use Rattle.bench_card.proofs.rows.quantizes.Statement.{statement}
 use Rattle.bench_card.proofs.rows.quantizes.Tie as tie

@@ -6,9 +6,9 @@ use Rattle.memory.proofs.Filled.{part-length}
 use Rattle.layouts.specs.Formats.{bytesK}
 use Rattle.layouts.specs.declared.format.FormatK.{FormatK}
 use Rattle.layouts.specs.declared.format.FormatK.the-variants.{Q4K, Q6K}
-use Rattle.activations.specs.declared.block.Q8Block.{Q8Block}
-use Rattle.activations.specs.Blocks.{SmallSums}
-use Rattle.integer_dots.specs.Dots.{blockDot}
+use Rattle.dots_activation.specs.declared.block.Q8Block.{Q8Block}
+use Rattle.dots_activation.specs.Blocks.{SmallSums}
+use Rattle.dots_integer.specs.Dots.{blockDot}
 use Rattle.held_rows.specs.Held.{blockHeld}
 use Rattle.held_rows.proofs.Blocks.{lent-held}
 use native.Mathlib.Omega.{arith}

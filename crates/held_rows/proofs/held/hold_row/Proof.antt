@@ -4,8 +4,8 @@ use Prim.Native.Nat.{ℕ, _+_, _-_, _*_, _/_, _≤_, _<_}
 use lib.ListN.{length, take, drop, length-set}
 use Rattle.memory.proofs.Filled.{part-length}
 use Rattle.memory.proofs.Laid.{laid-long}
-use Rattle.activations.specs.declared.block.Q8Block.{Q8Block}
-use Rattle.activations.specs.Blocks.{blockOf}
+use Rattle.dots_activation.specs.declared.block.Q8Block.{Q8Block}
+use Rattle.dots_activation.specs.Blocks.{blockOf}
 use Rattle.held_rows.specs.Held.{Holds}
 use Rattle.held_rows.proofs.Blocks.{block-long, holds-none, holds-more}
 use native.Mathlib.Omega.{arith}

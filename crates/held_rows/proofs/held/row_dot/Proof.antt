@@ -8,7 +8,7 @@ use Rattle.memory.proofs.Parts.{within, lent-part}
 use Rattle.layouts.specs.Formats.{bytesK}
 use Rattle.layouts.specs.declared.format.Format.the-variants.{OfK}
 use Rattle.layouts.proofs.Sizes.{sizes}
-use Rattle.integer_dots.specs.Dots.{blockDot}
+use Rattle.dots_integer.specs.Dots.{blockDot}
 use Rattle.held_rows.specs.Held.{blockHeld, heldDot}
 use Rattle.held_rows.proofs.Meets.{table-meets}
 use Rattle.held_rows.proofs.Blocks.{held-less}

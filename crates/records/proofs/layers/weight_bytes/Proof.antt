@@ -4,7 +4,7 @@ use Prim.Native.Nat.{ℕ, _*_}
 use native.Mathlib.Omega.{arith}
 use Rattle.layouts.specs.Formats.{formatOf}
 use Rattle.layouts.specs.declared.format.FormatK.{FormatK}
-use Rattle.shapes.specs.Shapes.{rowBytes}
+use Rattle.layers_shape.specs.Shapes.{rowBytes}
 use Rattle.records.specs.Kinds.{weightBytes}
 use Rattle.records.proofs.Read.{few-weights}
 use Rattle.records.proofs.layers.weight_bytes.Statement.{statement}

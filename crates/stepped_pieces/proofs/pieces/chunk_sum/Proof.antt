@@ -10,7 +10,7 @@ use Rattle.memory.proofs.Filled.{part-length}
 use Rattle.memory.proofs.Parts.{lent-part}
 use Rattle.layouts.specs.declared.format.FormatK.{FormatK}
 use Rattle.sums.specs.Rows.{chunkAt}
-use Rattle.fused_chunks.specs.Terms.{terms}
+use Rattle.dots_fused_chunk.specs.Terms.{terms}
 use Rattle.stepped_shape.specs.Layer.{chunks, layerRowBytes, rowOf}
 use Rattle.stepped_shape.proofs.Shapes.{shaped, bytes-within, row-enough}
 use Rattle.stepped_pieces.specs.Pieces.{sumAt}

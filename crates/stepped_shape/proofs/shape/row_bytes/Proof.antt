@@ -1,7 +1,7 @@
 -- `shape::row_bytes` meets its contract. Assumes nothing.
 use mathlib.Core.Path.{ap, _∙_}
 use Rattle.layouts.specs.declared.format.FormatK.{FormatK}
-use Rattle.shapes.specs.Shapes.{rowBytes}
+use Rattle.layers_shape.specs.Shapes.{rowBytes}
 use Rattle.stepped_shape.specs.Layer.{layerRowBytes}
 use Rattle.stepped_shape.proofs.Shapes.{shaped}
 use Rattle.stepped_shape.proofs.shape.row_bytes.Statement.{statement}

@@ -6,8 +6,8 @@ use native.Mathlib.Omega.{arith}
 use lib.ListN.{length}
 use borrow.Author.Needs.{needs}
 use borrow.Author.Tests.{lt-ltb, le-ltb, eq-eqb, ne-eqb}
-use Rattle.activations.specs.Whole.{every}
-use Rattle.activations.proofs.Tests.{every-none, every-more, every-not}
+use Rattle.dots_activation.specs.Whole.{every}
+use Rattle.dots_activation.proofs.Tests.{every-none, every-more, every-not}
 use Rattle.stored_answers.specs.Same.{sameByteAt, sameBytes}
 use Rattle.stored_answers.proofs.payload.same_bytes.Statement.{statement}
 use Rattle.stored_answers.proofs.payload.same_bytes.Tie as tie

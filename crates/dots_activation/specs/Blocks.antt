@@ -1,0 +1,66 @@
+-- Document 01, "Readings to small integers": the activation block. Definitions only.
+use Prim.Native.Nat.{ℕ, _+_, _*_, _<_}
+use mathlib.Core.Bool.{Bool, cond}
+use mathlib.Core.List.{List}
+use lib.Dec.{ltb}
+use lib.IntN.{ℤ, pos}
+use lib.ListN.{getD, length, replicate}
+use lib.Ieee.{Float, nan, binary32, ofBits, mul, div}
+use Rattle.memory.specs.Lists.{table}
+use Rattle.numbers.specs.Steps.{nought}
+use Rattle.readings.specs.Readings.{largest, inverse, quantQ8}
+use Rattle.dots_activation.specs.declared.block.Q8Block.{Q8Block}
+use Rattle.dots_activation.specs.declared.block.Quantized.{Quantized}
+use Rattle.dots_activation.specs.Whole.{elem, sumℤ, eqZ, every, Within}
+
+-- d = largest/127
+abbrev pub scaleQ8 : List Float → Float
+scaleQ8 xs = div binary32 (largest xs (length xs)) (ofBits binary32 0x42fe_0000)
+
+-- each reading times the inverse, as a Q8 quant; quants past the readings are 0
+abbrev pub quantAt : List Float → Float → ℕ → ℤ
+quantAt xs inv i = cond (ltb i (length xs)) (quantQ8 (mul binary32 (getD xs i nan) inv)) (pos 0)
+
+-- 256 signed quants
+abbrev pub quantsOf : List Float → List ℤ
+quantsOf xs = table (quantAt xs (inverse (scaleQ8 xs))) 256
+
+-- the sum of the 32 quants of sub-block j
+abbrev pub sumOf32 : List ℤ → ℕ → ℤ
+sumOf32 qs j = sumℤ (λ (l : ℕ). elem qs (32 * j + l)) 32
+
+-- eight sums of 32
+abbrev pub sumsOf : List ℤ → List ℤ
+sumsOf qs = table (sumOf32 qs) 8
+
+-- a block that is held as its parts: its scale, its quants and its sums
+abbrev pub heldBlock : Float → List ℤ → List ℤ → Q8Block
+heldBlock d qs sums = record { d = d; qs = qs; bsums = sums }
+
+-- An activation block has one float scale, 256 signed quants and eight sums of 32: the block of a scale and its quants ..
+abbrev pub blockWith : Float → List ℤ → Q8Block
+blockWith d qs = heldBlock d qs (sumsOf qs)
+
+-- .. and of at most 256 readings.
+unfoldable pub blockOf : List Float → Q8Block
+blockOf xs = blockWith (scaleQ8 xs) (quantsOf xs)
+
+-- the block beside a refusal: nothing but zeros
+abbrev pub noBlock : Q8Block
+noBlock = record { d = nought; qs = replicate 256 (pos 0); bsums = replicate 8 (pos 0) }
+
+-- `quantize_block_q8`: 4 for more than 256 readings; and otherwise the block, with the number 0
+unfoldable pub quantized : List Float → Quantized
+quantized xs = cond (ltb 256 (length xs)) (record { no = 4; block = noBlock }) (record { no = 0; block = blockOf xs })
+
+-- sum j of a block is the sum of its 32
+abbrev pub rightAt : Q8Block → ℕ → Bool
+rightAt b j = eqZ (sumOf32 (b .qs) j) (elem (b .bsums) j)
+
+-- a block's sums are the sums of its 32s
+unfoldable pub sumsRight : Q8Block → Bool
+sumsRight b = every (rightAt b) 8
+
+-- each of a block's eight sums is at most 4,096 in size, as a sum of 32 signed bytes is
+pub record SmallSums (b : Q8Block) : Type 0 where
+  pub near : (j : ℕ) → j < 8 → Within 4096 (elem (b .bsums) j)

@@ -1,0 +1,46 @@
+-- `chunk::add_short` meets its contract: the weights are the values of the decoded block. Assumes nothing.
+use mathlib.Core.Path.{ap, sym, _∙_}
+use Prim.Native.Nat.{_<_}
+use native.Mathlib.Omega.{arith}
+use lib.ListN.{length, getD}
+use lib.Ieee.{nan, binary32, mul}
+use Rattle.memory.proofs.Filled.{getD-table}
+use Rattle.layouts.specs.K.{valueK}
+use Rattle.sums.proofs.LaneLaws.{lanes-cong}
+use Rattle.dots_fused_chunk.proofs.Rows.{one-block}
+use borrow.Author.Needs.{needs}
+use Rattle.dots_fused_chunk.proofs.chunk.add_short.Statement.{statement}
+use Rattle.dots_fused_chunk.proofs.chunk.add_short.Tie as tie
+
+slice-aggregate-decode-k : tie.Need-slice-aggregate-decode-k
+slice-aggregate-decode-k c = search needs
+
+decode-k-requires : tie.Need-decode-k-requires
+decode-k-requires c κs = search needs
+
+slice-aggregate-add-products : tie.Need-slice-aggregate-add-products
+slice-aggregate-add-products c = search needs
+
+add-products-requires : tie.Need-add-products-requires
+add-products-requires c κs = search needs
+
+returns : tie.Need-returns
+returns c =
+    let d = c .before .before .before .decode-k in
+    let t = c .before .before .before .before .before .before .before in
+    let a = t .args in
+    c .add-products .ensures
+    ∙ lanes-cong (a .l) _ _ (length (a .x .now))
+    (λ i h.
+    let u : i < 256 = omega (arith, t .pre .0) in
+    ap (mul binary32 (getD (a .x .now) i nan)) (rw (d .ensures, getD-table (valueK (a .format) (a .block .now)) 256 i nan u) (sym (one-block (a .format) (a .block .now) i (t .pre .1) u))))
+
+pub add-short-spec : {M : Type 1} → statement M
+add-short-spec =
+    tie.close
+    (tie.spec
+    slice-aggregate-decode-k
+    decode-k-requires
+    slice-aggregate-add-products
+    add-products-requires
+    returns)

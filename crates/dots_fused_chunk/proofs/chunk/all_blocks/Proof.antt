@@ -1,0 +1,98 @@
+-- `chunk::all_blocks` meets its contract: the whole blocks, and after them the first places of one more. Assumes nothing.
+use mathlib.Core.Path.{_≡_, ap, _∙_}
+use Prim.Native.Nat.{_+_, _-_, _*_, _/_, _≤_}
+use lib.ListN.{length}
+use Rattle.sums.specs.Lanes.{lanes}
+use Rattle.dots_fused_chunk.specs.Terms.{terms}
+use Rattle.dots_fused_chunk.proofs.Rows.{block-room, block-terms}
+use Rattle.dots_fused_chunk.proofs.Runs.{run-more}
+use native.Mathlib.Omega.{arith}
+use borrow.Author.Needs.{needs}
+use Rattle.dots_fused_chunk.proofs.chunk.all_blocks.Statement.{statement}
+use Rattle.dots_fused_chunk.proofs.chunk.all_blocks.Tie as tie
+
+whole-blocks-requires : tie.Need-whole-blocks-requires
+whole-blocks-requires c κs = search needs
+
+returns : tie.Need-returns
+returns c =
+    let a = c .before .before .before .before .args in
+    let e : 256 * (length (a .x .now) / 256) ≡ length (a .x .now) = omega arith in
+    c .before .whole-blocks .ensures ∙ ap (lanes (terms (a .format) (a .x .now) (a .w .now))) e
+
+block-bytes-requires : tie.Need-block-bytes-requires
+block-bytes-requires c κs = search needs
+
+mul-at : tie.Need-mul-at
+mul-at c = search needs
+
+-- the last block lies within the bytes
+room : (c : tie.After-block-bytes)
+    → length (c .before .before .before .before .before .args .x .now) / 256 * c .block-bytes .result + c .block-bytes .result ≤ length (c .before .before .before .before .before .args .w .now)
+room c =
+    let t = c .before .before .before .before .before in
+    let n = length (t .args .x .now) in
+    block-room (t .args .format) (n / 256) (c .block-bytes .result) n (length (t .args .w .now)) (c .block-bytes .ensures) (t .pre) (omega arith)
+
+mul-from : tie.Need-mul-from
+mul-from c = omega (arith, room c)
+
+add-to : tie.Need-add-to
+add-to c = omega (arith, room c)
+
+mul-add-short : tie.Need-mul-add-short
+mul-add-short c = search needs
+
+sub-add-short : tie.Need-sub-add-short
+sub-add-short c = search needs
+
+part-add-short-start : tie.Need-part-add-short-start
+part-add-short-start c = search needs
+
+part-add-short-end : tie.Need-part-add-short-end
+part-add-short-end c = search needs
+
+sub-add-short-2 : tie.Need-sub-add-short-2
+sub-add-short-2 c = search needs
+
+part-add-short-start-2 : tie.Need-part-add-short-start-2
+part-add-short-start-2 c = search needs
+
+part-add-short-end-2 : tie.Need-part-add-short-end-2
+part-add-short-end-2 c = omega (arith, room (c .before))
+
+add-short-requires : tie.Need-add-short-requires
+add-short-requires c κs = search needs
+
+returns-2 : tie.Need-returns-2
+unfolding lanes
+returns-2 c =
+    let d = c .before .before .before in
+    let size = d .block-bytes in
+    let l = d .before .before .whole-blocks in
+    let a = d .before .before .before .before .before .args in
+    let n = length (a .x .now) in
+    let b = n / 256 in
+    run-more _ (l .result) _ (terms (a .format) (a .x .now) (a .w .now)) _ (256 * b) _ n (omega arith) (omega arith)
+    (λ i h. block-terms (a .format) (a .x .now) (a .w .now) b (256 * b) (n - 256 * b) (size .result) (b * size .result + size .result - b * size .result) i (size .ensures) (omega arith) (omega arith) (omega arith) (omega arith))
+    (c .add-short .ensures) (l .ensures)
+
+pub all-blocks-spec : {M : Type 1} → statement M
+all-blocks-spec =
+    tie.close
+    (tie.spec
+    whole-blocks-requires
+    returns
+    block-bytes-requires
+    mul-at
+    mul-from
+    add-to
+    mul-add-short
+    sub-add-short
+    part-add-short-start
+    part-add-short-end
+    sub-add-short-2
+    part-add-short-start-2
+    part-add-short-end-2
+    add-short-requires
+    returns-2)

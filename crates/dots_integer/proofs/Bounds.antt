@@ -1,0 +1,158 @@
+-- How large the whole numbers are. From our quantizer every quant is within 127, the sums are right and small, A stays within 30,723,840 and B within 133,169,152. Assumes nothing.
+use mathlib.Core.Path.{_≡_, refl, sym, ap, _∙_, subst}
+use mathlib.Core.Bool.{Bool, true, false, cond}
+use mathlib.Core.List.{List}
+use Prim.Native.Nat.{ℕ, zero, suc, _+_, _*_, _-_, _/_, _%_, _^_, _≤_, _<_}
+use native.Mathlib.Nat.{mul-le-mul-right}
+use native.Mathlib.Omega.{arith}
+use borrow.Author.Tests.{ltb-true, ltb-false}
+use lib.Dec.{ltb, lit≤}
+use lib.IntN.{ℤ, pos, negsuc, _-ℤ_}
+use lib.ListN.{getD, length}
+use lib.Ieee.{Float, nan, binary32, ofBits, le, add, mul}
+use mir.Syntax.{w32}
+use mir.Val.{SFits}
+use Rattle.memory.proofs.Filled.{getD-table}
+use Rattle.numbers.specs.Fields.{signed}
+use Rattle.numbers.specs.Steps.{nought, truncated}
+use Rattle.readings.specs.Readings.{inverse, held, quantQ8}
+use Rattle.layouts.specs.Of32.{nibble}
+use Rattle.layouts.specs.K.{scaleByte, scaleQ4K, quantQ4K, scaleQ6K, quantQ6K, scaleK, quantK}
+use Rattle.layouts.specs.declared.format.FormatK.{FormatK}
+use Rattle.layouts.specs.declared.format.FormatK.the-variants.{Q4K, Q6K}
+use Rattle.dots_activation.specs.Whole.{elem, eqZ, Within}
+use Rattle.dots_integer.specs.Dots.{weighedAt, wholeSum}
+use Rattle.dots_activation.specs.Blocks.{scaleQ8, quantAt, quantsOf, sumOf32, rightAt, blockOf, sumsRight, SmallSums}
+use Rattle.dots_activation.proofs.Magnitudes.{within, pos-within, mul-within, fits-within}
+use Rattle.dots_activation.proofs.Ranges.{sum-within}
+use Rattle.dots_activation.proofs.Tests.{eqZ-same, every-all}
+
+-- ---- a block of our quantizer
+
+-- what is held within -127 and 127 is within 127
+held-within : (z : ℤ) → Within 127 (held (negsuc 126) (pos 127) z)
+held-within (pos n) = by (ltb 127 n) refl
+  where
+    by : (t : Bool) → ltb 127 n ≡ t → Within 127 (cond t (pos 127) (pos n))
+    by true e = record { abs = omega arith }
+    by false e = record { abs = ltb-false 127 n e }
+held-within (negsuc n) = by (ltb 126 n) refl
+  where
+    by : (t : Bool) → ltb 126 n ≡ t → Within 127 (cond t (negsuc 126) (negsuc n))
+    by true e = record { abs = omega arith }
+    by false e = record { abs = omega (arith, ltb-false 126 n e) }
+
+q8-within : (p : Float) → Within 127 (quantQ8 p)
+unfolding quantQ8
+q8-within p = held-within (truncated (add binary32 p (cond (le nought p) (ofBits binary32 0x3f00_0000) (ofBits binary32 0xbf00_0000))))
+
+quant-within : (xs : List Float) (inv : Float) (i : ℕ) → Within 127 (quantAt xs inv i)
+quant-within xs inv i = by (ltb i (length xs))
+  where
+    by : (t : Bool) → Within 127 (cond t (quantQ8 (mul binary32 (getD xs i nan) inv)) (pos 0))
+    by true = q8-within (mul binary32 (getD xs i nan) inv)
+    by false = pos-within (omega arith)
+
+module _ (xs : List Float) where
+  pub quants-within : (i : ℕ) → i < 256 → Within 127 (elem (quantsOf xs) i)
+  quants-within i h = subst (Within 127) (sym (getD-table (quantAt xs (inverse (scaleQ8 xs))) 256 i (pos 0) h)) (quant-within xs (inverse (scaleQ8 xs)) i)
+
+  sum-at : (j : ℕ) → j < 8 → elem (blockOf xs .bsums) j ≡ sumOf32 (quantsOf xs) j
+  unfolding blockOf
+  sum-at j h = getD-table (sumOf32 (quantsOf xs)) 8 j (pos 0) h
+
+  -- its sums are small, ..
+  pub small-sums : SmallSums (blockOf xs)
+  small-sums = record {
+    near = λ j h. subst (Within 4096) (sym (sum-at j h)) (within (sum-within (λ (l : ℕ). elem (quantsOf xs) (32 * j + l)) 127 32 (λ l p. quants-within (32 * j + l) (omega arith))) (lit≤ tt));
+  }
+
+  -- .. and they are the sums of their 32s
+  pub sums-right : sumsRight (blockOf xs) ≡ true
+  unfolding sumsRight blockOf
+  sums-right = every-all (rightAt (blockOf xs)) 8 (λ j h. ap (eqZ (sumOf32 (quantsOf xs) j)) (getD-table (sumOf32 (quantsOf xs)) 8 j (pos 0) h) ∙ eqZ-same (sumOf32 (quantsOf xs) j))
+
+-- ---- a packed block's scales and quants
+
+abbrev pub mostScale : FormatK → ℕ
+mostScale Q4K = 63
+mostScale Q6K = 128
+
+abbrev pub mostQuant : FormatK → ℕ
+mostQuant Q4K = 15
+mostQuant Q6K = 32
+
+-- a byte as a signed number is within 128
+signed-within : (b : ℕ) → b < 256 → Within 128 (signed b)
+signed-within b h = by (ltb b 128) refl
+  where
+    by : (t : Bool) → ltb b 128 ≡ t → Within 128 (cond t (pos b) (negsuc (255 - b)))
+    by true e = record { abs = omega (arith, ltb-true b 128 e) }
+    by false e = record { abs = omega (arith, ltb-false b 128 e) }
+
+-- six bits less 32 are within 32
+less-within : (u : ℕ) → u < 64 → Within 32 (pos u -ℤ pos 32)
+less-within u h = by (ltb u 32) refl
+  where
+    by : (t : Bool) → ltb u 32 ≡ t → Within 32 (cond t (negsuc (32 - suc u)) (pos (u - 32)))
+    by true e = record { abs = omega (arith, ltb-true u 32 e) }
+    by false e = record { abs = omega (arith, ltb-false u 32 e) }
+
+nibble-small : (b k : ℕ) → b < 256 → nibble b k ≤ 15
+nibble-small b zero h = omega arith
+nibble-small b (suc k) h = omega arith
+
+module _ (w : List ℕ) (bytes : (i : ℕ) → getD w i 0 < 256) where
+  scale-q4k : (j : ℕ) → scaleQ4K w j ≤ 63
+  unfolding scaleQ4K
+  scale-q4k j = by (ltb j 4)
+    where
+      by : (t : Bool) → cond t (scaleByte w j % 64) (scaleByte w (j + 4) % 16 + 16 * (scaleByte w (j - 4) / 64)) ≤ 63
+      by true = omega arith
+      by false = omega (arith, bytes (4 + (j - 4)))
+
+  quant-q4k : (i : ℕ) → quantQ4K w i ≤ 15
+  unfolding quantQ4K
+  quant-q4k i = nibble-small (getD w (16 + (32 * (i / 64) + i % 32)) 0) (i / 32 % 2) (bytes (16 + (32 * (i / 64) + i % 32)))
+
+  scale-q6k : (i : ℕ) → Within 128 (scaleQ6K w i)
+  unfolding scaleQ6K
+  scale-q6k i = let k = 192 + (8 * (i / 128) + (i % 32 / 16 + 2 * (i % 128 / 32))) in signed-within (getD w k 0) (bytes k)
+
+  quant-q6k : (i : ℕ) → Within 32 (quantQ6K w i)
+  unfolding quantQ6K
+  quant-q6k i =
+      let h = i / 128 in
+      let t = i % 128 / 32 in
+      let l = i % 32 in
+      let low = 64 * h + (32 * (t % 2) + l) in
+      let high = getD w (128 + (32 * h + l)) 0 / 2 ^ (2 * t) % 4 in
+      less-within (nibble (getD w low 0) (t / 2) + 16 * high) (omega (arith, nibble-small (getD w low 0) (t / 2) (bytes low)))
+
+  -- ---- what a place weighs, and the sums
+
+  pub scale-within : (f : FormatK) (i : ℕ) → Within (mostScale f) (scaleK f w i)
+  scale-within Q4K i = pos-within (scale-q4k (i / 32))
+  scale-within Q6K i = scale-q6k i
+
+  pub quant-within-k : (f : FormatK) (i : ℕ) → Within (mostQuant f) (quantK f w i)
+  quant-within-k Q4K i = pos-within (quant-q4k i)
+  quant-within-k Q6K i = quant-q6k i
+
+  -- activation quants within X: the sum over at most 256 places
+  pub sum-within-k : (f : FormatK) (X : ℕ) (x : List ℤ) (n : ℕ) → n ≤ 256 → ((i : ℕ) → i < n → Within X (elem x i)) → Within (256 * (mostScale f * (mostQuant f * X))) (wholeSum f w x n)
+  sum-within-k f X x n h q =
+      within (sum-within (weighedAt f w x) (mostScale f * (mostQuant f * X)) n (λ i p. mul-within (scale-within f i) (mul-within (quant-within-k f i) (q i p)))) (mul-le-mul-right (mostScale f * (mostQuant f * X)) h)
+
+  -- From our quantizer A stays within 30,723,840 ..
+  pub a-within : (xs : List Float) (n : ℕ) → n ≤ 256 → Within 30723840 (wholeSum Q4K w (quantsOf xs) n)
+  a-within xs n h = sum-within-k Q4K 127 (quantsOf xs) n h (λ i p. quants-within xs i (omega arith))
+
+  -- .. and B within 133,169,152.
+  pub b-within : (xs : List Float) (n : ℕ) → n ≤ 256 → Within 133169152 (wholeSum Q6K w (quantsOf xs) n)
+  b-within xs n h = sum-within-k Q6K 127 (quantsOf xs) n h (λ i p. quants-within xs i (omega arith))
+
+  -- Of any signed bytes i32 holds both.
+  pub held-by-i32 : (f : FormatK) (x : List ℤ) (n : ℕ) → n ≤ 256 → ((i : ℕ) → i < n → Within 128 (elem x i)) → SFits w32 (wholeSum f w x n)
+  held-by-i32 Q4K x n h q = fits-within (sum-within-k Q4K 128 x n h q) tt
+  held-by-i32 Q6K x n h q = fits-within (sum-within-k Q6K 128 x n h q) tt

@@ -1,0 +1,6 @@
+-- What several proofs of `dots_integer` share.
+pub mod Runs
+pub mod Dots
+pub mod Bounds
+pub mod Rows
+pub mod Unique

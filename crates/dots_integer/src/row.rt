@@ -1,0 +1,73 @@
+// The dot of a row of packed blocks and readings, in whole numbers block by block.
+use crate::dot::Q4K_BYTES;
+use crate::dot::block_dot_q4k;
+use dots_activation::quantized_block;
+use layouts::FormatK;
+use refusals::Answer;
+ghost use mathlib.Core.Path.{_≡_};
+ghost use Prim.Native.Nat.{_+_, _*_, _≤_, _<_};
+ghost use lib.ListN.{length};
+ghost use Rattle.refusals.specs.Said.{saidBy};
+ghost use Rattle.refusals.specs.Sizes.{mostIn};
+ghost use Rattle.dots_integer.specs.Rows.{blocksIn, blockLength, rowDot, integerSays};
+
+// The blocks of a row at most.
+const MOST_BLOCKS: usize = 512;
+
+// How many blocks n places make: 512 at most.
+fn blocks_in(n: usize) -> usize
+    requires { ⌜ n ≤ mostIn ⌝ }
+    ensures { λ r. ⌜ r ≡ blocksIn n ⌝ }
+{
+    (n + 255) / 256
+}
+
+// Where the readings of block b of n places end; they start at 256 b.
+fn block_end(n: usize, b: usize) -> usize
+    requires { ⌜ (n ≤ mostIn) × (b < blocksIn n) ⌝ }
+    ensures { λ r. ⌜ (r ≡ 256 * b + blockLength n b) × (256 * b < r) × (r ≤ n) ⌝ }
+{
+    let s = 256 * b;
+    if n - s > 256 { s + 256 } else { n }
+}
+
+// The dot of the first n places: the dots of the blocks meet in the tree.
+fn row_dot(x: &[f32], w: &[u8], n: usize) -> f32
+    requires { ⌜ (n ≤ mostIn) × (n ≤ length (now x)) × (blocksIn n * 144 ≤ length (now w)) ⌝ }
+    ensures { λ r. ⌜ r ≡ rowDot FormatK.Q4K (now (x .entry)) (now (w .entry)) n ⌝ }
+{
+    let blocks = blocks_in(n);
+    let mut parts = [0.0f32; MOST_BLOCKS];
+    let mut b: usize = 0;
+    while b < blocks {
+        let s = 256 * b;
+        let e = block_end(n, b);
+        let from = b * Q4K_BYTES;
+        let to = from + Q4K_BYTES;
+        parts[b] = block_dot_q4k(&w[from..to], quantized_block(&x[s..e]), e - s);
+        b += 1;
+    }
+    sums::canonical_combine(&mut parts[..blocks])
+}
+
+// The dot of the first n readings, quantised block by block, and the packed weights. Refuses 6 and 1, answers n = 0 with +0.0, refuses 3 and 4, in this order.
+pub fn integer_dot_q4k(x: &[f32], w: &[u8], n: usize) -> Answer
+    ensures { λ r. ⌜ saidBy r ≡ integerSays (now (x .entry)) (now (w .entry)) n ⌝ }
+{
+    if n > refusals::MOST_IN {
+        return Answer::Refused(refusals::TOO_LARGE);
+    }
+    if w.len() % Q4K_BYTES != 0 {
+        return Answer::Refused(refusals::NOT_WHOLE_BLOCKS);
+    }
+    if n == 0 {
+        return Answer::Value(0.0);
+    }
+    if w.len() < blocks_in(n) * Q4K_BYTES {
+        return Answer::Refused(refusals::WEIGHTS_SHORT);
+    }
+    if x.len() < n {
+        return Answer::Refused(refusals::READINGS_SHORT);
+    }
+    Answer::Value(row_dot(x, w, n))
+}

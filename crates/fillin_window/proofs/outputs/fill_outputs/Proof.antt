@@ -1,0 +1,87 @@
+-- `outputs::fill_outputs` meets its contract. Assumes nothing.
+use mathlib.Core.Path.{_≡_, ap, _∙_}
+use Prim.Native.Nat.{ℕ}
+use borrow.Author.Needs.{needs}
+use mathlib.Core.List.{List}
+use lib.ListN.{length}
+use lib.Ieee.{Float}
+use Rattle.refusals.specs.Said.{Said, done, outcomeSays}
+use Rattle.stepped_shape.proofs.Shapes.{workable}
+use Rattle.stepped.specs.Says.{progressSays}
+use Rattle.refusals.proofs.Laws.{never-refused}
+use Rattle.fillin_window.proofs.Rows.{open-done, Worked, worked}
+use Rattle.fillin_window.proofs.outputs.fill_outputs.Statement.{statement}
+use Rattle.fillin_window.proofs.outputs.fill_outputs.Tie as tie
+
+slice-aggregate-open : tie.Need-slice-aggregate-open
+slice-aggregate-open c = search needs
+
+slice-aggregate-open-2 : tie.Need-slice-aggregate-open-2
+slice-aggregate-open-2 c = search needs
+
+open-requires : tie.Need-open-requires
+open-requires c κs = search needs
+
+enum-told : tie.Need-enum-told
+enum-told c = search needs
+
+enum-told-2 : tie.Need-enum-told-2
+enum-told-2 c = search needs
+
+-- after the run every piece is done, and each row meets in its dot
+module _ (c : tie.After-run) where
+  abbrev start : tie.Start
+  start = c .before .before .before .before .before .before .before .before .before .before .before .before .before
+
+  lengths : (length (c .before .before .before .before .before .before .before .«open» .last .1 .0) ≡ 16) × (length (c .before .before .before .before .before .before .before .«open» .last .1 .1 .0) ≡ 16) × (length (c .run .last .1 .1 .1 .1 .0) ≡ 16) × (length (c .run .last .1 .1 .1 .1 .1 .0) ≡ 16)
+  lengths = search needs
+
+  facts : Worked (start .args .l) (start .args .w .now) (start .args .x .now) (outcomeSays (c .before .before .before .before .before .before .before .«open» .result), (c .before .before .before .before .before .before .before .«open» .last .1 .0, c .before .before .before .before .before .before .before .«open» .last .1 .1 .0)) (progressSays (c .run .result), (c .run .last .1 .1 .1 .1 .0, c .run .last .1 .1 .1 .1 .1 .0))
+  facts =
+      worked _ _ _ 16 _ _ (start .pre .0) (workable _ _ _ _ _ (start .pre .0) .has-room .slots-enough) _ (c .before .before .before .before .before .before .before .«open» .ensures) _ (c .run .ensures) (lengths .0) (lengths .1) (lengths .2) (lengths .3)
+
+-- open does not refuse
+opens : (c : tie.After-open) → outcomeSays (c .«open» .result) ≡ done
+opens c = ap (λ (p : Said × (List Float × List ℕ)). p .0) (c .«open» .ensures) ∙ open-done _ _ _ _ _ (c .before .before .before .before .before .before .pre .0)
+
+returns : tie.Need-returns
+returns c = absurd (never-refused _ _ (opens (c .before .before .before .before)) (c .enum-told2 .given .1))
+
+slice-aggregate-run : tie.Need-slice-aggregate-run
+slice-aggregate-run c = search needs
+
+slice-aggregate-run-2 : tie.Need-slice-aggregate-run-2
+slice-aggregate-run-2 c = search needs
+
+run-requires : tie.Need-run-requires
+run-requires c κs = search needs
+
+enum-known-ran : tie.Need-enum-known-ran
+enum-known-ran c = search needs
+
+returns-2 : tie.Need-returns-2
+returns-2 c = absurd (facts (c .before .before .before .before .before) .not-refused _ (ap progressSays (c .before .ran .given .1)))
+
+enum-told-3 : tie.Need-enum-told-3
+enum-told-3 c = search needs
+
+slice-aggregate-close-rows : tie.Need-slice-aggregate-close-rows
+slice-aggregate-close-rows c = search needs
+
+slice-aggregate-close-rows-2 : tie.Need-slice-aggregate-close-rows-2
+slice-aggregate-close-rows-2 c = search needs
+
+close-rows-requires : tie.Need-close-rows-requires
+close-rows-requires c κs = let f = facts (c .before .before .before .before .before .before .before) in (f .closable, f .all-closed, c .before .before .before .before .before .before .before .before .before .before .before .before .before .before .before .before .before .before .before .before .pre .1)
+
+same-length : tie.Need-same-length
+same-length c = search needs
+
+returns-3 : tie.Need-returns-3
+returns-3 c = let f = facts (c .before .before .before .before .before .before .before .before .before .before) in (c .before .before .close-rows .ensures .0, c .before .before .close-rows .ensures .1 ∙ f .dots _)
+
+pub fill-outputs-spec : {M : Type 1} → statement M
+fill-outputs-spec =
+    tie.close
+    (tie.spec slice-aggregate-open slice-aggregate-open-2 open-requires enum-told enum-told-2 returns slice-aggregate-run slice-aggregate-run-2 run-requires enum-known-ran returns-2 enum-told-3 slice-aggregate-close-rows
+    slice-aggregate-close-rows-2 close-rows-requires same-length returns-3)

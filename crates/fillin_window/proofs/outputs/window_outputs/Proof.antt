@@ -1,0 +1,79 @@
+-- `outputs::window_outputs` meets its contract. Assumes nothing.
+use mathlib.Core.Path.{_≡_, sym, ap, _∙_}
+use Prim.Native.Nat.{ℕ}
+use native.Mathlib.Omega.{arith}
+use borrow.Author.Needs.{needs}
+use mathlib.Core.List.{List, _++_}
+use lib.ListN.{length, take, drop, length-append}
+use lib.Seq.{length-take-le, take-at}
+use lib.Ieee.{Float}
+use Rattle.memory.specs.Lists.{table, filled}
+use Rattle.memory.proofs.Filled.{length-table}
+use Rattle.stepped_shape.specs.Refusals.{workNo}
+use Rattle.stepped.specs.History.{inOneGo}
+use Rattle.records.specs.Kinds.{readingAt}
+use Rattle.fillin_window.specs.Windows.{readingsIn}
+use Rattle.fillin_window.proofs.outputs.window_outputs.Statement.{statement}
+use Rattle.fillin_window.proofs.outputs.window_outputs.Tie as tie
+
+readings-room-requires : tie.Need-readings-room-requires
+readings-room-requires c κs = search needs
+
+array-borrow-prefix-x : tie.Need-array-borrow-prefix-x
+array-borrow-prefix-x c = search needs
+
+-- the part of the room that is lent has a place for each reading
+lent : (c : tie.After-x) → (let n = c .before .before .before .before .before .args .l .«in_feat» in length (take n (c .before .readings-room .result)) ≡ n)
+lent c =
+    let t = c .before .before .before .before .before in
+    length-take-le (t .args .l .«in_feat») (c .before .readings-room .result) (omega (arith, c .before .readings-room .ensures, t .pre .1))
+
+slice-aggregate-readings : tie.Need-slice-aggregate-readings
+slice-aggregate-readings c = sym (lent c)
+
+readings-requires : tie.Need-readings-requires
+readings-requires c κs = omega (arith, lent c, c .before .before .before .before .before .pre .2)
+
+-- its places hold the readings
+module _ (c : tie.After-readings) where
+  abbrev start : tie.Start
+  start = c .before .before .before .before .before .before
+
+  abbrev inputs : ℕ
+  inputs = start .args .l .«in_feat»
+
+  shown : c .readings .last .1 .0 ≡ readingsIn (start .args .payload .now) (start .args .l)
+  shown = c .readings .ensures ∙ ap (table (readingAt (start .args .payload .now))) (lent (c .before))
+
+  as-many : length (c .readings .last .1 .0) ≡ inputs
+  as-many = ap length shown ∙ length-table _ inputs
+
+  front : take inputs (c .readings .last .1 .0 ++ drop inputs (c .before .before .readings-room .result)) ≡ c .readings .last .1 .0
+  front = take-at (c .readings .last .1 .0) (drop inputs (c .before .before .readings-room .result)) inputs as-many
+
+array-share-prefix-x : tie.Need-array-share-prefix-x
+array-share-prefix-x c =
+    rw length-append (omega (arith, as-many (c .before)))
+
+slice-aggregate-fill-outputs : tie.Need-slice-aggregate-fill-outputs
+slice-aggregate-fill-outputs c = sym (ap length (front (c .before .before)) ∙ as-many (c .before .before))
+
+fill-outputs-requires : tie.Need-fill-outputs-requires
+fill-outputs-requires c κs =
+    let d = c .before .before .before in
+    let t = start d in
+    (ap (λ (n : ℕ). workNo (t .args .l) (length (t .args .w .now)) n 16 16) (ap length (front d) ∙ as-many d) ∙ t .pre .0, t .pre .3)
+
+same-length : tie.Need-same-length
+same-length c = search needs
+
+returns : tie.Need-returns
+returns c =
+    let d = c .before .before .before .before .before .before in
+    let t = start d in
+    let e = c .before .before .fill-outputs .ensures in
+    (e .0, e .1 ∙ ap (λ (x : List Float). filled (inOneGo (t .args .l) (t .args .w .now) x) (t .args .y .now) (t .args .l .«out_feat»)) (front d ∙ shown d))
+
+pub window-outputs-spec : {M : Type 1} → statement M
+window-outputs-spec =
+    tie.close (tie.spec readings-room-requires array-borrow-prefix-x slice-aggregate-readings readings-requires array-share-prefix-x slice-aggregate-fill-outputs fill-outputs-requires same-length returns)

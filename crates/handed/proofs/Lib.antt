@@ -1,2 +1,0 @@
--- What the proofs of `handed` share.
-pub mod MadeBlock

@@ -1,4 +1,0 @@
--- One answer for each contract of `integer_layers`, outputs as row dots, and a worked case.
-pub mod RowDots
-pub mod Unique
-pub mod Worked

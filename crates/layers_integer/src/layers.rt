@@ -1,0 +1,109 @@
+// The calls. Each refuses 6, 2, 3, 4 and 5, in this order.
+use held_rows::Meeting;
+use layers_integer_row::rows_of_16;
+use layers_integer_row::rows_of_512;
+use layers_shape::Shape;
+use layouts::FormatK;
+use refusals::Outcome;
+ghost use mathlib.Core.Path.{_≡_};
+ghost use Rattle.refusals.specs.Said.{outcomeSays};
+ghost use Rattle.layers_shape.specs.Shapes.{shape};
+ghost use Rattle.layers_integer.specs.Says.{integerLayerSays};
+
+fn integer_layer(
+    format: FormatK,
+    meeting: Meeting,
+    x: &[f32],
+    w: &[u8],
+    y: &mut [f32],
+    s: Shape,
+) -> Outcome
+    ensures { λ r. ⌜ (outcomeSays r, now (y .exit)) ≡ integerLayerSays format meeting s (now (x .entry)) (now (w .entry)) (now (y .entry)) ⌝ }
+{
+    let no = layers_shape::layer_no(format, s, x.len(), w.len(), y.len());
+    if no != 0 {
+        return Outcome::Refused(no);
+    }
+    if s.in_feat > 4096 {
+        rows_of_512(format, meeting, x, w, y, s);
+    } else {
+        rows_of_16(format, meeting, x, w, y, s);
+    }
+    Outcome::Done
+}
+
+// The dots of a row's blocks meet in the tree.
+pub fn linear_q4_k_integer(
+    x: &[f32],
+    w: &[u8],
+    y: &mut [f32],
+    batch: usize,
+    in_feat: usize,
+    out_feat: usize,
+) -> Outcome
+    ensures { λ r. ⌜ (outcomeSays r, now (y .exit)) ≡ integerLayerSays FormatK.Q4K Meeting.Tree (shape batch «in_feat» «out_feat») (now (x .entry)) (now (w .entry)) (now (y .entry)) ⌝ }
+{
+    let s = Shape {
+        batch,
+        in_feat,
+        out_feat,
+    };
+    integer_layer(FormatK::Q4K, Meeting::Tree, x, w, y, s)
+}
+
+// The same in Q6_K.
+pub fn linear_q6_k_integer(
+    x: &[f32],
+    w: &[u8],
+    y: &mut [f32],
+    batch: usize,
+    in_feat: usize,
+    out_feat: usize,
+) -> Outcome
+    ensures { λ r. ⌜ (outcomeSays r, now (y .exit)) ≡ integerLayerSays FormatK.Q6K Meeting.Tree (shape batch «in_feat» «out_feat») (now (x .entry)) (now (w .entry)) (now (y .entry)) ⌝ }
+{
+    let s = Shape {
+        batch,
+        in_feat,
+        out_feat,
+    };
+    integer_layer(FormatK::Q6K, Meeting::Tree, x, w, y, s)
+}
+
+// They meet in a running sum from +0.0.
+pub fn linear_q4_k_integer_rs(
+    x: &[f32],
+    w: &[u8],
+    y: &mut [f32],
+    batch: usize,
+    in_feat: usize,
+    out_feat: usize,
+) -> Outcome
+    ensures { λ r. ⌜ (outcomeSays r, now (y .exit)) ≡ integerLayerSays FormatK.Q4K Meeting.Running (shape batch «in_feat» «out_feat») (now (x .entry)) (now (w .entry)) (now (y .entry)) ⌝ }
+{
+    let s = Shape {
+        batch,
+        in_feat,
+        out_feat,
+    };
+    integer_layer(FormatK::Q4K, Meeting::Running, x, w, y, s)
+}
+
+// The same in Q6_K.
+pub fn linear_q6_k_integer_rs(
+    x: &[f32],
+    w: &[u8],
+    y: &mut [f32],
+    batch: usize,
+    in_feat: usize,
+    out_feat: usize,
+) -> Outcome
+    ensures { λ r. ⌜ (outcomeSays r, now (y .exit)) ≡ integerLayerSays FormatK.Q6K Meeting.Running (shape batch «in_feat» «out_feat») (now (x .entry)) (now (w .entry)) (now (y .entry)) ⌝ }
+{
+    let s = Shape {
+        batch,
+        in_feat,
+        out_feat,
+    };
+    integer_layer(FormatK::Q6K, Meeting::Running, x, w, y, s)
+}
