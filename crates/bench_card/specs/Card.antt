@@ -1,4 +1,5 @@
--- Document 01's bench card as one table: what each row asks, what the card says, and what the definitions that the contracts cite answer. Definitions only.
+-- Document 01's bench card as one table: what each row asks, what the card says, and what the definitions that the
+-- contracts cite answer. Definitions only.
 use Prim.Native.Nat.{ℕ, _-_}
 use mathlib.Core.Bool.{Bool, false, cond}
 use mathlib.Core.List.{List, [], _∷_, map}

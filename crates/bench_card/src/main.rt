@@ -1,4 +1,5 @@
-// Document 01's bench card, run: the rows of specs/Card.antt, asked of the compiled code, and the cases that are run only.
+// Document 01's bench card, run: the rows of specs/Card.antt, asked of the compiled code, and the cases that are run
+// only.
 //
 // A line says of each row, and then of each case by its n, whether what the call answered is what the card says. The
 // last lines are of a row and cases with a wrong answer. Behind the rows, the cases and the wrong ones, a line counts

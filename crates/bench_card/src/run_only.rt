@@ -1,4 +1,5 @@
-// The cases that are run only. Readings are small whole numbers and weights are ones, so that every sum is exact, in whatever order it is added up.
+// The cases that are run only. Readings are small whole numbers and weights are ones, so that every sum is exact, in
+// whatever order it is added up.
 use layouts::FormatK;
 use stored_answers::same_answer;
 ghost use mathlib.Core.Path.{_≡_};

@@ -1,4 +1,5 @@
--- How C is handed what a call says: as a number that is returned, and a value that goes through a pointer. Definitions only.
+-- How C is handed what a call says: as a number that is returned, and a value that goes through a pointer. Definitions
+-- only.
 use Prim.Native.Nat.{ℕ}
 use lib.Ieee.{Float}
 use Rattle.refusals.specs.Said.{Said, value, done, refused}
@@ -13,7 +14,8 @@ numberOf (refused num) = num
 unfoldable pub numbered : {A : Type 0} → Said × A → ℕ × A
 numbered (says, memory) = (numberOf says, memory)
 
--- what is returned of a call that works out a value, beside what stands behind the pointer then: the value, and where there is none what stood there
+-- what is returned of a call that works out a value, beside what stands behind the pointer then: the value, and where
+-- there is none what stood there
 unfoldable pub laidOut : Said → Float → ℕ × Float
 laidOut (value v) old = (0, v)
 laidOut done old = (0, old)

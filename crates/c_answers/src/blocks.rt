@@ -19,7 +19,8 @@ pub fn block_in(d: f32, qs: &[i8; 256], bsums: &[i32; 8]) -> Q8Block
 
 // The number of a call that makes a block, which is stored in its three places where it was made.
 pub fn lay_out_block(made: Quantized, d: &mut f32, qs: &mut [i8; 256], bsums: &mut [i32; 8]) -> u32
-    ensures { λ r. ⌜ (r, blockIn (now (d .exit)) (now (qs .exit)) (now (bsums .exit))) ≡ blockLaidOut made (blockIn (now (d .entry)) (now (qs .entry)) (now (bsums .entry))) ⌝ }
+    ensures { λ r. ⌜ (r, blockIn (now (d .exit)) (now (qs .exit)) (now (bsums .exit)))
+        ≡ blockLaidOut made (blockIn (now (d .entry)) (now (qs .entry)) (now (bsums .entry))) ⌝ }
 {
     let no = made.no;
     if no != 0 {

@@ -6,7 +6,8 @@ ghost use Rattle.c_answers.specs.Counts.{countsLaidOut};
 
 // The number of run, whose two counts are stored where it has them.
 pub fn lay_out_counts(progress: Progress, done: &mut usize, left: &mut usize) -> u32
-    ensures { λ r. ⌜ (r, (now (done .exit), now (left .exit))) ≡ countsLaidOut (progressSays progress) (now (done .entry), now (left .entry)) ⌝ }
+    ensures { λ r. ⌜ (r, (now (done .exit), now (left .exit)))
+        ≡ countsLaidOut (progressSays progress) (now (done .entry), now (left .entry)) ⌝ }
 {
     match progress {
         Progress::Ran {

@@ -12,7 +12,8 @@ ghost use Rattle.layouts.specs.K.{valueK};
 // A run of 16 whole numbers, each times the scale s, less the minimum m.
 fn scale_run_less(q: &[u8], s: f32, m: f32, out: &mut [f32])
     requires { ⌜ (length (now q) ≡ 16) × (length (now out) ≡ 16) ⌝ }
-    ensures { λ _. ⌜ now (out .exit) ≡ table (λ l. sub binary32 (mul binary32 s (ofInt binary32 (pos (getD (now (q .entry)) l 0)))) m) 16 ⌝ }
+    ensures { λ _. ⌜ now (out .exit)
+        ≡ table (λ l. sub binary32 (mul binary32 s (ofInt binary32 (pos (getD (now (q .entry)) l 0)))) m) 16 ⌝ }
 {
     for l in 0..16usize {
         out[l] = s * q[l] as f32 - m;

@@ -11,7 +11,8 @@ ghost use Rattle.layouts.specs.Of32.{value32};
 // A run of 16 whole numbers, each times the scale s.
 pub fn scale_run(q: &[i8], s: f32, out: &mut [f32])
     requires { ⌜ (length (now q) ≡ 16) × (length (now out) ≡ 16) ⌝ }
-    ensures { λ _. ⌜ now (out .exit) ≡ table (λ l. mul binary32 s (ofInt binary32 (getD (now (q .entry)) l (pos 0)))) 16 ⌝ }
+    ensures { λ _. ⌜ now (out .exit)
+        ≡ table (λ l. mul binary32 s (ofInt binary32 (getD (now (q .entry)) l (pos 0)))) 16 ⌝ }
 {
     for l in 0..16usize {
         out[l] = s * q[l] as f32;

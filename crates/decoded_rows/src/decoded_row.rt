@@ -10,7 +10,8 @@ ghost use Rattle.layouts.specs.Weights.{valueIn, weightAt, valuesOf};
 // The values of a block from place `from` on, as many as there is room for.
 fn decode_within(format: Format, block: &[u8], from: usize, out: &mut [f32])
     requires { ⌜ (length (now block) ≡ blockBytes format) × (from + length (now out) ≤ blockValues format) ⌝ }
-    ensures { λ _. ⌜ now (out .exit) ≡ table (λ i. valueIn format (now (block .entry)) (from + i)) (length (now (out .entry))) ⌝ }
+    ensures { λ _. ⌜ now (out .exit)
+        ≡ table (λ i. valueIn format (now (block .entry)) (from + i)) (length (now (out .entry))) ⌝ }
 {
     let values = layouts::block_values(format);
     let mut whole = [0.0f32; 256];
@@ -26,10 +27,12 @@ fn smaller(a: usize, b: usize) -> usize
     if a < b { a } else { b }
 }
 
-// The weights from place `from` on, as many as there is room for, a block at a time: a row may start or end inside a block.
+// The weights from place `from` on, as many as there is room for, a block at a time: a row may start or end inside a
+// block.
 fn decode_parts(format: Format, w: &[u8], from: usize, out: &mut [f32])
     requires { ⌜ (from + length (now out) ≤ valuesOf format (length (now w))) × (from + length (now out) < 2 ^ 63) ⌝ }
-    ensures { λ _. ⌜ now (out .exit) ≡ table (λ i. weightAt format (now (w .entry)) (from + i)) (length (now (out .entry))) ⌝ }
+    ensures { λ _. ⌜ now (out .exit)
+        ≡ table (λ i. weightAt format (now (w .entry)) (from + i)) (length (now (out .entry))) ⌝ }
 {
     let size = layouts::block_bytes(format);
     let values = layouts::block_values(format);
@@ -49,7 +52,8 @@ fn decode_parts(format: Format, w: &[u8], from: usize, out: &mut [f32])
 // The same, but a row of whole blocks is decoded at once.
 pub fn decode_row(format: Format, w: &[u8], from: usize, out: &mut [f32])
     requires { ⌜ (from + length (now out) ≤ valuesOf format (length (now w))) × (from + length (now out) < 2 ^ 63) ⌝ }
-    ensures { λ _. ⌜ now (out .exit) ≡ table (λ i. weightAt format (now (w .entry)) (from + i)) (length (now (out .entry))) ⌝ }
+    ensures { λ _. ⌜ now (out .exit)
+        ≡ table (λ i. weightAt format (now (w .entry)) (from + i)) (length (now (out .entry))) ⌝ }
 {
     let size = layouts::block_bytes(format);
     let values = layouts::block_values(format);

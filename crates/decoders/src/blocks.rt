@@ -30,7 +30,9 @@ fn decode_block(format: Format, block: &[u8], out: &mut [f32])
 // The values of the whole blocks of `bytes`, at the front of the output.
 pub fn decode_blocks(format: Format, bytes: &[u8], out: &mut [f32])
     requires { ⌜ valuesOf format (length (now bytes)) ≤ length (now out) ⌝ }
-    ensures { λ _. ⌜ now (out .exit) ≡ filled (weightAt format (now (bytes .entry))) (now (out .entry)) (valuesOf format (length (now (bytes .entry)))) ⌝ }
+    ensures { λ _. ⌜ now (out .exit)
+        ≡ filled (weightAt format (now (bytes .entry))) (now (out .entry))
+        (valuesOf format (length (now (bytes .entry)))) ⌝ }
 {
     let size = block_bytes(format);
     let values = block_values(format);
@@ -64,7 +66,8 @@ fn dequantize_no(format: Format, n: usize, room: usize) -> u32
 }
 
 fn dequantize(format: Format, bytes: &[u8], out: &mut [f32]) -> Outcome
-    ensures { λ r. ⌜ (outcomeSays r, now (out .exit)) ≡ dequantizeSays format (now (bytes .entry)) (now (out .entry)) ⌝ }
+    ensures { λ r. ⌜ (outcomeSays r, now (out .exit))
+        ≡ dequantizeSays format (now (bytes .entry)) (now (out .entry)) ⌝ }
 {
     let no = dequantize_no(format, bytes.len(), out.len());
     if no != 0 {
@@ -76,35 +79,40 @@ fn dequantize(format: Format, bytes: &[u8], out: &mut [f32]) -> Outcome
 
 // Q4_0: 32 values to a block of 18 bytes. Each of these calls refuses 6, 1 and 5, in this order.
 pub fn dequantize_q4_0(bytes: &[u8], out: &mut [f32]) -> Outcome
-    ensures { λ r. ⌜ (outcomeSays r, now (out .exit)) ≡ dequantizeSays (Format.Of32 Format32.Q40) (now (bytes .entry)) (now (out .entry)) ⌝ }
+    ensures { λ r. ⌜ (outcomeSays r, now (out .exit))
+        ≡ dequantizeSays (Format.Of32 Format32.Q40) (now (bytes .entry)) (now (out .entry)) ⌝ }
 {
     dequantize(Format::Of32(Format32::Q40), bytes, out)
 }
 
 // Q5_0: 32 values to a block of 22 bytes.
 pub fn dequantize_q5_0(bytes: &[u8], out: &mut [f32]) -> Outcome
-    ensures { λ r. ⌜ (outcomeSays r, now (out .exit)) ≡ dequantizeSays (Format.Of32 Format32.Q50) (now (bytes .entry)) (now (out .entry)) ⌝ }
+    ensures { λ r. ⌜ (outcomeSays r, now (out .exit))
+        ≡ dequantizeSays (Format.Of32 Format32.Q50) (now (bytes .entry)) (now (out .entry)) ⌝ }
 {
     dequantize(Format::Of32(Format32::Q50), bytes, out)
 }
 
 // Q8_0: 32 values to a block of 34 bytes.
 pub fn dequantize_q8_0(bytes: &[u8], out: &mut [f32]) -> Outcome
-    ensures { λ r. ⌜ (outcomeSays r, now (out .exit)) ≡ dequantizeSays (Format.Of32 Format32.Q80) (now (bytes .entry)) (now (out .entry)) ⌝ }
+    ensures { λ r. ⌜ (outcomeSays r, now (out .exit))
+        ≡ dequantizeSays (Format.Of32 Format32.Q80) (now (bytes .entry)) (now (out .entry)) ⌝ }
 {
     dequantize(Format::Of32(Format32::Q80), bytes, out)
 }
 
 // Q4_K: 256 values to a block of 144 bytes.
 pub fn dequantize_q4_k(bytes: &[u8], out: &mut [f32]) -> Outcome
-    ensures { λ r. ⌜ (outcomeSays r, now (out .exit)) ≡ dequantizeSays (Format.OfK FormatK.Q4K) (now (bytes .entry)) (now (out .entry)) ⌝ }
+    ensures { λ r. ⌜ (outcomeSays r, now (out .exit))
+        ≡ dequantizeSays (Format.OfK FormatK.Q4K) (now (bytes .entry)) (now (out .entry)) ⌝ }
 {
     dequantize(Format::OfK(FormatK::Q4K), bytes, out)
 }
 
 // Q6_K: 256 values to a block of 210 bytes.
 pub fn dequantize_q6_k(bytes: &[u8], out: &mut [f32]) -> Outcome
-    ensures { λ r. ⌜ (outcomeSays r, now (out .exit)) ≡ dequantizeSays (Format.OfK FormatK.Q6K) (now (bytes .entry)) (now (out .entry)) ⌝ }
+    ensures { λ r. ⌜ (outcomeSays r, now (out .exit))
+        ≡ dequantizeSays (Format.OfK FormatK.Q6K) (now (bytes .entry)) (now (out .entry)) ⌝ }
 {
     dequantize(Format::OfK(FormatK::Q6K), bytes, out)
 }

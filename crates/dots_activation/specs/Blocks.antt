@@ -37,7 +37,8 @@ sumsOf qs = table (sumOf32 qs) 8
 abbrev pub heldBlock : Float → List ℤ → List ℤ → Q8Block
 heldBlock d qs sums = record { d = d; qs = qs; bsums = sums }
 
--- An activation block has one float scale, 256 signed quants and eight sums of 32: the block of a scale and its quants ..
+-- An activation block has one float scale, 256 signed quants and eight sums of 32: the block of a scale and its quants
+-- ..
 abbrev pub blockWith : Float → List ℤ → Q8Block
 blockWith d qs = heldBlock d qs (sumsOf qs)
 

@@ -16,7 +16,8 @@ pub struct Q8Block {
     pub bsums: [i32; 8],
 }
 
-// What the quantizer of a block answers: 0 and the block, or the number that says no and a block of zeros, since an enum cannot hold arrays.
+// What the quantizer of a block answers: 0 and the block, or the number that says no and a block of zeros, since an
+// enum cannot hold arrays.
 pub struct Quantized {
     pub no: u32,
     pub block: Q8Block,
@@ -52,7 +53,8 @@ fn small_sum(s: i32) -> bool
     if s < -4096 { false } else { s <= 4096 }
 }
 
-// Whether sum j is the sum of its 32. A claim that is small is compared in 16 bits, where a vector holds twice as many sums.
+// Whether sum j is the sum of its 32. A claim that is small is compared in 16 bits, where a vector holds twice as many
+// sums.
 fn sum_right(block: Q8Block, j: usize) -> bool
     requires { ⌜ j < 8 ⌝ }
     ensures { λ r. ⌜ (r ≡ rightAt block j) × (r ≡ true → Within 4096 (elem (block .bsums) j)) ⌝ }

@@ -15,7 +15,8 @@ use Rattle.layouts.specs.declared.format.Format.the-variants.{OfK}
 use Rattle.sums.specs.Rows.{rowSum}
 use Rattle.dots_fused_chunk.specs.Terms.{terms}
 
--- `canonical_dot_q4k_fused`, `q6k_fused_f32_dot`: over a size; packed bytes that are not whole blocks, also at n = 0; n = 0 answers +0.0; fewer weights than needed; fewer readings; and otherwise the row's sum
+-- `canonical_dot_q4k_fused`, `q6k_fused_f32_dot`: over a size; packed bytes that are not whole blocks, also at n = 0; n
+-- = 0 answers +0.0; fewer weights than needed; fewer readings; and otherwise the row's sum
 unfoldable pub fusedSays : FormatK → List Float → List ℕ → ℕ → Said
 fusedSays f x w n =
     cond (ltb mostIn n) (refused 6)

@@ -28,7 +28,8 @@ fn row_dot(format: FormatK, x: &[f32], w: &[u8], n: usize) -> f32
     sums::canonical_combine(&mut parts[..chunks])
 }
 
-// The dot of the first n readings and the first n weights that w packs. Refuses 6 and 1, answers n = 0 with +0.0, refuses 3 and 4, in this order.
+// The dot of the first n readings and the first n weights that w packs. Refuses 6 and 1, answers n = 0 with +0.0,
+// refuses 3 and 4, in this order.
 pub fn fused_dot(format: FormatK, x: &[f32], w: &[u8], n: usize) -> Answer
     ensures { λ r. ⌜ saidBy r ≡ fusedSays format (now (x .entry)) (now (w .entry)) n ⌝ }
 {

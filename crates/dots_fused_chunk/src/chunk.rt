@@ -1,4 +1,5 @@
-// One chunk of a row: its blocks' terms go to eight lanes, which meet in the tree. The loop over blocks is one for both formats, with one look at the format for each block.
+// One chunk of a row: its blocks' terms go to eight lanes, which meet in the tree. The loop over blocks is one for both
+// formats, with one look at the format for each block.
 use crate::q4k::add_q4k;
 use crate::q6k::add_q6k;
 use layouts::Format;
@@ -24,7 +25,8 @@ fn add_block(format: FormatK, l: [f32; 8], x: &[f32], block: &[u8]) -> [f32; 8]
     }
 }
 
-// The lanes `l` after the terms of a row's last block, of which only the first places count. It is decoded as a whole, since the row may end inside a run.
+// The lanes `l` after the terms of a row's last block, of which only the first places count. It is decoded as a whole,
+// since the row may end inside a run.
 fn add_short(format: FormatK, l: [f32; 8], x: &[f32], block: &[u8]) -> [f32; 8]
     requires { ⌜ (length (now x) ≤ 256) × (length (now block) ≡ bytesK format) ⌝ }
     ensures { λ r. ⌜ r ≡ lanesFrom l (terms format (now (x .entry)) (now (block .entry))) (length (now (x .entry))) ⌝ }
@@ -37,7 +39,8 @@ fn add_short(format: FormatK, l: [f32; 8], x: &[f32], block: &[u8]) -> [f32; 8]
 // The lanes of the whole blocks of x, the first of which has the weights of the first block of w.
 fn whole_blocks(format: FormatK, x: &[f32], w: &[u8]) -> [f32; 8]
     requires { ⌜ length (now x) ≤ valuesOf (Format.OfK format) (length (now w)) ⌝ }
-    ensures { λ r. ⌜ r ≡ lanes (terms format (now (x .entry)) (now (w .entry))) (256 * (length (now (x .entry)) / 256)) ⌝ }
+    ensures { λ r. ⌜ r ≡ lanes (terms format (now (x .entry)) (now (w .entry)))
+        (256 * (length (now (x .entry)) / 256)) ⌝ }
 {
     let size = layouts::block_bytes(Format::OfK(format));
     let count = x.len() / 256;
@@ -73,9 +76,11 @@ fn all_blocks(format: FormatK, x: &[f32], w: &[u8]) -> [f32; 8]
     add_short(format, l, &x[at..], &w[from..to])
 }
 
-// The sum of chunk c of a row of n places: the products of the readings x and the weights that w packs, over the places of this chunk alone. A chunk starts with a block.
+// The sum of chunk c of a row of n places: the products of the readings x and the weights that w packs, over the places
+// of this chunk alone. A chunk starts with a block.
 pub fn chunk_dot(format: FormatK, x: &[f32], w: &[u8], n: usize, c: usize) -> f32
-    requires { ⌜ (n ≤ mostIn) × (n ≤ length (now x)) × (n ≤ valuesOf (Format.OfK format) (length (now w))) × (c < chunksIn n) ⌝ }
+    requires { ⌜ (n ≤ mostIn) × (n ≤ length (now x)) × (n ≤ valuesOf (Format.OfK format) (length (now w)))
+        × (c < chunksIn n) ⌝ }
     ensures { λ r. ⌜ r ≡ chunkAt (terms format (now (x .entry)) (now (w .entry))) n c ⌝ }
 {
     let s = sums::CHUNK * c;

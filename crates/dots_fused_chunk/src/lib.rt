@@ -1,4 +1,5 @@
-// The fused dot of one chunk: packed weights are decoded and multiplied a block at a time, so that no decoded row is held.
+// The fused dot of one chunk: packed weights are decoded and multiplied a block at a time, so that no decoded row is
+// held.
 mod chunk;
 mod q4k;
 mod q6k;

@@ -1,4 +1,5 @@
-// Q4_K: eight sub-blocks of 32, each with a scale and a minimum of its own. Whole numbers and products are laid out before the loop, and the lanes go by value, eight terms at a time, so that each step is on vectors.
+// Q4_K: eight sub-blocks of 32, each with a scale and a minimum of its own. Whole numbers and products are laid out
+// before the loop, and the lanes go by value, eight terms at a time, so that each step is on vectors.
 use layouts::FormatK;
 ghost use mathlib.Core.Path.{_≡_};
 ghost use lib.ListN.{length};

@@ -6,7 +6,8 @@ ghost use lib.Ieee.{binary32, ofInt};
 ghost use Rattle.sums.specs.Lanes.{lanesFrom};
 ghost use Rattle.dots_fused_chunk.specs.Terms.{terms, runTerms};
 
-// A whole number as a float. It goes over an unsigned byte: SSE2 widens a signed one together with what its register held before, and so waits for the lanes.
+// A whole number as a float. It goes over an unsigned byte: SSE2 widens a signed one together with what its register
+// held before, and so waits for the lanes.
 fn to_f32(q: i8) -> f32
     ensures { λ r. ⌜ r ≡ ofInt binary32 q ⌝ }
 {

@@ -35,14 +35,16 @@ scaledSum d dx z = mul binary32 (mul binary32 d dx) (ofInt binary32 z)
 
 -- Q4_K: (d*dx)*A - (dmin*dx)*M, where A counts only places below n. Q6_K: (d*dx)*B.
 unfoldable pub blockDot : FormatK → List ℕ → Q8Block → ℕ → Float
-blockDot Q4K w b n = sub binary32 (scaledSum (dOf Q4K w) (b .d) (wholeSum Q4K w (b .qs) n)) (scaledSum (dminOf w) (b .d) (minimumSum w (b .bsums)))
+blockDot Q4K w b n = sub binary32 (scaledSum (dOf Q4K w) (b .d) (wholeSum Q4K w (b .qs) n))
+    (scaledSum (dminOf w) (b .d) (minimumSum w (b .bsums)))
 blockDot Q6K w b n = scaledSum (dOf Q6K w) (b .d) (wholeSum Q6K w (b .qs) n)
 
 -- A block dot needs one whole block and takes n above 256 as 256; surplus weights are ignored.
 abbrev pub firstDot : FormatK → List ℕ → Q8Block → ℕ → Float
 firstDot f w b n = blockDot f (block (OfK f) w 0) b (min n 256)
 
--- `dot_q4k_q8_block`: fewer weights than needed; sums that aren't the sums of their 32s; and otherwise its formula, also at n = 0
+-- `dot_q4k_q8_block`: fewer weights than needed; sums that aren't the sums of their 32s; and otherwise its formula,
+-- also at n = 0
 unfoldable pub dotQ4kSays : List ℕ → Q8Block → ℕ → Said
 dotQ4kSays w b n =
     cond (ltb (length w) (bytesK Q4K)) (refused 3)

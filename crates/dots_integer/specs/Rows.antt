@@ -34,7 +34,8 @@ blockAt f x w n b = blockDot f (block (OfK f) w b) (blockOf (part x (256 * b) (b
 unfoldable pub rowDot : FormatK → List Float → List ℕ → ℕ → Float
 rowDot f x w n = tree (table (blockAt f x w n) (blocksIn n))
 
--- `integer_dot_q4k`: over a size; packed bytes that are not whole blocks; n = 0 answers +0.0; fewer weights than needed; fewer readings; and otherwise the row's dot
+-- `integer_dot_q4k`: over a size; packed bytes that are not whole blocks; n = 0 answers +0.0; fewer weights than
+-- needed; fewer readings; and otherwise the row's dot
 unfoldable pub integerSays : List Float → List ℕ → ℕ → Said
 integerSays x w n =
     cond (ltb mostIn n) (refused 6)

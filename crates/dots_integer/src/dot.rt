@@ -31,10 +31,13 @@ fn half_at(w: &[u8], i: usize) -> f32
     halves::f16_to_f32(numbers::le_u16(w[i], w[i + 1]))
 }
 
-// The dot of a Q4_K block and an activation block that is held as its parts: its scale, its 256 quants and its eight sums.
+// The dot of a Q4_K block and an activation block that is held as its parts: its scale, its 256 quants and its eight
+// sums.
 pub fn held_dot_q4k(w: &[u8], d: f32, qs: &[i8], sums: &[i32]) -> f32
-    requires { ⌜ (length (now w) ≡ 144) × (length (now qs) ≡ 256) × (length (now sums) ≡ 8) × SmallSums (heldBlock d (now qs) (now sums)) ⌝ }
-    ensures { λ r. ⌜ r ≡ blockDot FormatK.Q4K (now (w .entry)) (heldBlock d (now (qs .entry)) (now (sums .entry))) 256 ⌝ }
+    requires { ⌜ (length (now w) ≡ 144) × (length (now qs) ≡ 256) × (length (now sums) ≡ 8)
+        × SmallSums (heldBlock d (now qs) (now sums)) ⌝ }
+    ensures { λ r. ⌜ r ≡ blockDot FormatK.Q4K (now (w .entry)) (heldBlock d (now (qs .entry)) (now (sums .entry)))
+        256 ⌝ }
 {
     let a = numbers::whole_to_f32(whole_q4k(w, qs));
     let m = numbers::whole_to_f32(minimum_sum(w, sums));
@@ -44,13 +47,15 @@ pub fn held_dot_q4k(w: &[u8], d: f32, qs: &[i8], sums: &[i32]) -> f32
 // The same of a Q6_K block, which looks at no sums.
 pub fn held_dot_q6k(w: &[u8], d: f32, qs: &[i8]) -> f32
     requires { ⌜ (length (now w) ≡ 210) × (length (now qs) ≡ 256) ⌝ }
-    ensures { λ r. ⌜ ((sums : List ℤ) → r ≡ blockDot FormatK.Q6K (now (w .entry)) (heldBlock d (now (qs .entry)) sums) 256) ⌝ }
+    ensures { λ r. ⌜ ((sums : List ℤ) → r
+        ≡ blockDot FormatK.Q6K (now (w .entry)) (heldBlock d (now (qs .entry)) sums) 256) ⌝ }
 {
     let b = numbers::whole_to_f32(whole_q6k(w, qs));
     half_at(w, 208) * d * b
 }
 
-// The dot of a Q4_K block and an activation block over the places below n, for callers that made the block and so know its sums.
+// The dot of a Q4_K block and an activation block over the places below n, for callers that made the block and so know
+// its sums.
 pub fn block_dot_q4k(w: &[u8], xq: Q8Block, n: usize) -> f32
     requires { ⌜ (length (now w) ≡ 144) × SmallSums xq × (n ≤ 256) ⌝ }
     ensures { λ r. ⌜ r ≡ blockDot FormatK.Q4K (now (w .entry)) xq n ⌝ }

@@ -50,7 +50,8 @@ fn row_dot(x: &[f32], w: &[u8], n: usize) -> f32
     sums::canonical_combine(&mut parts[..blocks])
 }
 
-// The dot of the first n readings, quantised block by block, and the packed weights. Refuses 6 and 1, answers n = 0 with +0.0, refuses 3 and 4, in this order.
+// The dot of the first n readings, quantised block by block, and the packed weights. Refuses 6 and 1, answers n = 0
+// with +0.0, refuses 3 and 4, in this order.
 pub fn integer_dot_q4k(x: &[f32], w: &[u8], n: usize) -> Answer
     ensures { λ r. ⌜ saidBy r ≡ integerSays (now (x .entry)) (now (w .entry)) n ⌝ }
 {

@@ -1,5 +1,7 @@
-// The whole-number sums of a block dot: scale times quant times activation quant over the places below n, and the minimums times the sums.
-// Both formats go run by run: a run has one scale, so its quants' products are summed first. i32 holds every sum, whatever the bytes are:
+// The whole-number sums of a block dot: scale times quant times activation quant over the places below n, and the
+// minimums times the sums.
+// Both formats go run by run: a run has one scale, so its quants' products are summed first. i32 holds every sum,
+// whatever the bytes are:
 // a run is at most 32 x 255 x 128 = 1,044,480 in size, and 16 runs, each times a signed byte, stay below 2^31.
 use layouts::FormatK;
 ghost use mathlib.Core.Path.{_≡_};
@@ -37,7 +39,8 @@ fn weighed(a: i8, s: i32) -> i32
 // The products of run j of 32, those of its two halves side by side: one reduction serves both.
 fn run_of_32(q: &[u8; 256], x: &[i8], j: usize) -> i32
     requires { ⌜ (length (now x) ≡ 256) × (j < 8) ⌝ }
-    ensures { λ r. ⌜ (r ≡ sumℤ (λ l. pos (getD (now (q .entry)) (32 * j + l) 0) *ℤ elem (now (x .entry)) (32 * j + l)) 32) × Within 1044480 r ⌝ }
+    ensures { λ r. ⌜ (r ≡ sumℤ (λ l. pos (getD (now (q .entry)) (32 * j + l) 0) *ℤ elem (now (x .entry)) (32 * j + l))
+        32) × Within 1044480 r ⌝ }
 {
     let low = 32 * j;
     let high = low + 16;
@@ -51,7 +54,8 @@ fn run_of_32(q: &[u8; 256], x: &[i8], j: usize) -> i32
 // The products of run e of 16.
 fn run_of_16(q: &[i8; 256], x: &[i8], e: usize) -> i32
     requires { ⌜ (length (now x) ≡ 256) × (e < 16) ⌝ }
-    ensures { λ r. ⌜ (r ≡ sumℤ (λ l. elem (now (q .entry)) (16 * e + l) *ℤ elem (now (x .entry)) (16 * e + l)) 16) × Within 1044480 r ⌝ }
+    ensures { λ r. ⌜ (r ≡ sumℤ (λ l. elem (now (q .entry)) (16 * e + l) *ℤ elem (now (x .entry)) (16 * e + l)) 16)
+        × Within 1044480 r ⌝ }
 {
     let from = 16 * e;
     let mut s: i32 = 0;
@@ -101,7 +105,8 @@ pub(crate) fn cut(x: [i8; 256], n: usize) -> [i8; 256]
 
 // Q4_K's minimums times the block's sums, all eight.
 pub(crate) fn minimum_sum(w: &[u8], sums: &[i32]) -> i32
-    requires { ⌜ (length (now w) ≡ 144) × (length (now sums) ≡ 8) × ((j : ℕ) → j < 8 → Within 4096 (elem (now sums) j)) ⌝ }
+    requires { ⌜ (length (now w) ≡ 144) × (length (now sums) ≡ 8)
+        × ((j : ℕ) → j < 8 → Within 4096 (elem (now sums) j)) ⌝ }
     ensures { λ r. ⌜ r ≡ minimumSum (now (w .entry)) (now (sums .entry)) ⌝ }
 {
     let mut m: i32 = 0;

@@ -17,7 +17,9 @@ pub extern "C" fn jambharrow_quantize_block_q8(
     qs: &mut [i8; 256],
     bsums: &mut [i32; 8],
 ) -> u32
-    ensures { λ r. ⌜ (r, blockIn (now (d .exit)) (now (qs .exit)) (now (bsums .exit))) ≡ blockLaidOut (quantized (now (x .entry))) (blockIn (now (d .entry)) (now (qs .entry)) (now (bsums .entry))) ⌝ }
+    ensures { λ r. ⌜ (r, blockIn (now (d .exit)) (now (qs .exit)) (now (bsums .exit)))
+        ≡ blockLaidOut (quantized (now (x .entry)))
+        (blockIn (now (d .entry)) (now (qs .entry)) (now (bsums .entry))) ⌝ }
 {
     lay_out_block(dots_activation::quantize_block_q8(x), d, qs, bsums)
 }
@@ -32,7 +34,9 @@ pub extern "C" fn jambharrow_dot_q4k_q8_block(
     n: usize,
     value: &mut f32,
 ) -> u32
-    ensures { λ r. ⌜ (r, now (value .exit)) ≡ laidOut (dotQ4kSays (now (w .entry)) (blockIn d (now (qs .entry)) (now (bsums .entry))) n) (now (value .entry)) ⌝ }
+    ensures { λ r. ⌜ (r, now (value .exit))
+        ≡ laidOut (dotQ4kSays (now (w .entry)) (blockIn d (now (qs .entry)) (now (bsums .entry))) n)
+        (now (value .entry)) ⌝ }
 {
     lay_out(
         dots_integer::dot_q4k_q8_block(w, block_in(d, qs, bsums), n),
@@ -50,7 +54,9 @@ pub extern "C" fn jambharrow_dot_q6k_q8_block(
     n: usize,
     value: &mut f32,
 ) -> u32
-    ensures { λ r. ⌜ (r, now (value .exit)) ≡ laidOut (dotQ6kSays (now (w .entry)) (blockIn d (now (qs .entry)) (now (bsums .entry))) n) (now (value .entry)) ⌝ }
+    ensures { λ r. ⌜ (r, now (value .exit))
+        ≡ laidOut (dotQ6kSays (now (w .entry)) (blockIn d (now (qs .entry)) (now (bsums .entry))) n)
+        (now (value .entry)) ⌝ }
 {
     lay_out(
         dots_integer::dot_q6k_q8_block(w, block_in(d, qs, bsums), n),
@@ -61,7 +67,8 @@ pub extern "C" fn jambharrow_dot_q6k_q8_block(
 // `dots_integer::integer_dot_q4k`, for C.
 #[no_mangle]
 pub extern "C" fn jambharrow_integer_dot_q4k(x: &[f32], w: &[u8], n: usize, value: &mut f32) -> u32
-    ensures { λ r. ⌜ (r, now (value .exit)) ≡ laidOut (integerSays (now (x .entry)) (now (w .entry)) n) (now (value .entry)) ⌝ }
+    ensures { λ r. ⌜ (r, now (value .exit))
+        ≡ laidOut (integerSays (now (x .entry)) (now (w .entry)) n) (now (value .entry)) ⌝ }
 {
     lay_out(dots_integer::integer_dot_q4k(x, w, n), value)
 }

@@ -10,7 +10,8 @@ ghost use Rattle.c_answers.specs.Answers.{numbered};
 // `decoders::dequantize_q4_0`, for C.
 #[no_mangle]
 pub extern "C" fn jambharrow_dequantize_q4_0(bytes: &[u8], out: &mut [f32]) -> u32
-    ensures { λ r. ⌜ (r, now (out .exit)) ≡ numbered (dequantizeSays (Format.Of32 Format32.Q40) (now (bytes .entry)) (now (out .entry))) ⌝ }
+    ensures { λ r. ⌜ (r, now (out .exit))
+        ≡ numbered (dequantizeSays (Format.Of32 Format32.Q40) (now (bytes .entry)) (now (out .entry))) ⌝ }
 {
     number_of(decoders::dequantize_q4_0(bytes, out))
 }
@@ -18,7 +19,8 @@ pub extern "C" fn jambharrow_dequantize_q4_0(bytes: &[u8], out: &mut [f32]) -> u
 // `decoders::dequantize_q5_0`, for C.
 #[no_mangle]
 pub extern "C" fn jambharrow_dequantize_q5_0(bytes: &[u8], out: &mut [f32]) -> u32
-    ensures { λ r. ⌜ (r, now (out .exit)) ≡ numbered (dequantizeSays (Format.Of32 Format32.Q50) (now (bytes .entry)) (now (out .entry))) ⌝ }
+    ensures { λ r. ⌜ (r, now (out .exit))
+        ≡ numbered (dequantizeSays (Format.Of32 Format32.Q50) (now (bytes .entry)) (now (out .entry))) ⌝ }
 {
     number_of(decoders::dequantize_q5_0(bytes, out))
 }
@@ -26,7 +28,8 @@ pub extern "C" fn jambharrow_dequantize_q5_0(bytes: &[u8], out: &mut [f32]) -> u
 // `decoders::dequantize_q8_0`, for C.
 #[no_mangle]
 pub extern "C" fn jambharrow_dequantize_q8_0(bytes: &[u8], out: &mut [f32]) -> u32
-    ensures { λ r. ⌜ (r, now (out .exit)) ≡ numbered (dequantizeSays (Format.Of32 Format32.Q80) (now (bytes .entry)) (now (out .entry))) ⌝ }
+    ensures { λ r. ⌜ (r, now (out .exit))
+        ≡ numbered (dequantizeSays (Format.Of32 Format32.Q80) (now (bytes .entry)) (now (out .entry))) ⌝ }
 {
     number_of(decoders::dequantize_q8_0(bytes, out))
 }
@@ -34,7 +37,8 @@ pub extern "C" fn jambharrow_dequantize_q8_0(bytes: &[u8], out: &mut [f32]) -> u
 // `decoders::dequantize_q4_k`, for C.
 #[no_mangle]
 pub extern "C" fn jambharrow_dequantize_q4_k(bytes: &[u8], out: &mut [f32]) -> u32
-    ensures { λ r. ⌜ (r, now (out .exit)) ≡ numbered (dequantizeSays (Format.OfK FormatK.Q4K) (now (bytes .entry)) (now (out .entry))) ⌝ }
+    ensures { λ r. ⌜ (r, now (out .exit))
+        ≡ numbered (dequantizeSays (Format.OfK FormatK.Q4K) (now (bytes .entry)) (now (out .entry))) ⌝ }
 {
     number_of(decoders::dequantize_q4_k(bytes, out))
 }
@@ -42,7 +46,8 @@ pub extern "C" fn jambharrow_dequantize_q4_k(bytes: &[u8], out: &mut [f32]) -> u
 // `decoders::dequantize_q6_k`, for C.
 #[no_mangle]
 pub extern "C" fn jambharrow_dequantize_q6_k(bytes: &[u8], out: &mut [f32]) -> u32
-    ensures { λ r. ⌜ (r, now (out .exit)) ≡ numbered (dequantizeSays (Format.OfK FormatK.Q6K) (now (bytes .entry)) (now (out .entry))) ⌝ }
+    ensures { λ r. ⌜ (r, now (out .exit))
+        ≡ numbered (dequantizeSays (Format.OfK FormatK.Q6K) (now (bytes .entry)) (now (out .entry))) ⌝ }
 {
     number_of(decoders::dequantize_q6_k(bytes, out))
 }

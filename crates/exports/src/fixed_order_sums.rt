@@ -8,7 +8,8 @@ ghost use Rattle.c_answers.specs.Answers.{laidOut};
 // `sums::canonical_chunk`, for C.
 #[no_mangle]
 pub extern "C" fn jambharrow_canonical_chunk(x: &[f32], w: &[f32], value: &mut f32) -> u32
-    ensures { λ r. ⌜ (r, now (value .exit)) ≡ laidOut (chunkSays (now (x .entry)) (now (w .entry))) (now (value .entry)) ⌝ }
+    ensures { λ r. ⌜ (r, now (value .exit))
+        ≡ laidOut (chunkSays (now (x .entry)) (now (w .entry))) (now (value .entry)) ⌝ }
 {
     lay_out(sums::canonical_chunk(x, w), value)
 }
@@ -29,7 +30,8 @@ pub extern "C" fn jambharrow_canonical_dot_pub(
     n: usize,
     value: &mut f32,
 ) -> u32
-    ensures { λ r. ⌜ (r, now (value .exit)) ≡ laidOut (dotSays (now (x .entry)) (now (w .entry)) n) (now (value .entry)) ⌝ }
+    ensures { λ r. ⌜ (r, now (value .exit))
+        ≡ laidOut (dotSays (now (x .entry)) (now (w .entry)) n) (now (value .entry)) ⌝ }
 {
     lay_out(sums::canonical_dot_pub(x, w, n), value)
 }

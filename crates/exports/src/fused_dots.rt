@@ -13,7 +13,8 @@ pub extern "C" fn jambharrow_canonical_dot_q4k_fused(
     n: usize,
     value: &mut f32,
 ) -> u32
-    ensures { λ r. ⌜ (r, now (value .exit)) ≡ laidOut (fusedSays FormatK.Q4K (now (x .entry)) (now (w .entry)) n) (now (value .entry)) ⌝ }
+    ensures { λ r. ⌜ (r, now (value .exit))
+        ≡ laidOut (fusedSays FormatK.Q4K (now (x .entry)) (now (w .entry)) n) (now (value .entry)) ⌝ }
 {
     lay_out(dots_fused::canonical_dot_q4k_fused(x, w, n), value)
 }
@@ -26,7 +27,8 @@ pub extern "C" fn jambharrow_q6k_fused_f32_dot(
     n: usize,
     value: &mut f32,
 ) -> u32
-    ensures { λ r. ⌜ (r, now (value .exit)) ≡ laidOut (fusedSays FormatK.Q6K (now (x .entry)) (now (w .entry)) n) (now (value .entry)) ⌝ }
+    ensures { λ r. ⌜ (r, now (value .exit))
+        ≡ laidOut (fusedSays FormatK.Q6K (now (x .entry)) (now (w .entry)) n) (now (value .entry)) ⌝ }
 {
     lay_out(dots_fused::q6k_fused_f32_dot(x, w, n), value)
 }

@@ -21,7 +21,9 @@ pub extern "C" fn jambharrow_linear_q4_k_fused(
     in_feat: usize,
     out_feat: usize,
 ) -> u32
-    ensures { λ r. ⌜ (r, now (y .exit)) ≡ numbered (fusedLayerSays FormatK.Q4K (shape batch «in_feat» «out_feat») (now (x .entry)) (now (w .entry)) (now (y .entry))) ⌝ }
+    ensures { λ r. ⌜ (r, now (y .exit))
+        ≡ numbered (fusedLayerSays FormatK.Q4K (shape batch «in_feat» «out_feat») (now (x .entry)) (now (w .entry))
+        (now (y .entry))) ⌝ }
 {
     number_of(layers_fused::linear_q4_k_fused(x, w, y, batch, in_feat, out_feat))
 }
@@ -36,7 +38,9 @@ pub extern "C" fn jambharrow_linear_q6_k_fused(
     in_feat: usize,
     out_feat: usize,
 ) -> u32
-    ensures { λ r. ⌜ (r, now (y .exit)) ≡ numbered (fusedLayerSays FormatK.Q6K (shape batch «in_feat» «out_feat») (now (x .entry)) (now (w .entry)) (now (y .entry))) ⌝ }
+    ensures { λ r. ⌜ (r, now (y .exit))
+        ≡ numbered (fusedLayerSays FormatK.Q6K (shape batch «in_feat» «out_feat») (now (x .entry)) (now (w .entry))
+        (now (y .entry))) ⌝ }
 {
     number_of(layers_fused::linear_q6_k_fused(x, w, y, batch, in_feat, out_feat))
 }
@@ -51,7 +55,9 @@ pub extern "C" fn jambharrow_linear_q4_k_integer(
     in_feat: usize,
     out_feat: usize,
 ) -> u32
-    ensures { λ r. ⌜ (r, now (y .exit)) ≡ numbered (integerLayerSays FormatK.Q4K Meeting.Tree (shape batch «in_feat» «out_feat») (now (x .entry)) (now (w .entry)) (now (y .entry))) ⌝ }
+    ensures { λ r. ⌜ (r, now (y .exit))
+        ≡ numbered (integerLayerSays FormatK.Q4K Meeting.Tree (shape batch «in_feat» «out_feat») (now (x .entry))
+        (now (w .entry)) (now (y .entry))) ⌝ }
 {
     number_of(layers_integer::linear_q4_k_integer(x, w, y, batch, in_feat, out_feat))
 }
@@ -66,7 +72,9 @@ pub extern "C" fn jambharrow_linear_q6_k_integer(
     in_feat: usize,
     out_feat: usize,
 ) -> u32
-    ensures { λ r. ⌜ (r, now (y .exit)) ≡ numbered (integerLayerSays FormatK.Q6K Meeting.Tree (shape batch «in_feat» «out_feat») (now (x .entry)) (now (w .entry)) (now (y .entry))) ⌝ }
+    ensures { λ r. ⌜ (r, now (y .exit))
+        ≡ numbered (integerLayerSays FormatK.Q6K Meeting.Tree (shape batch «in_feat» «out_feat») (now (x .entry))
+        (now (w .entry)) (now (y .entry))) ⌝ }
 {
     number_of(layers_integer::linear_q6_k_integer(x, w, y, batch, in_feat, out_feat))
 }
@@ -81,7 +89,9 @@ pub extern "C" fn jambharrow_linear_q4_k_integer_rs(
     in_feat: usize,
     out_feat: usize,
 ) -> u32
-    ensures { λ r. ⌜ (r, now (y .exit)) ≡ numbered (integerLayerSays FormatK.Q4K Meeting.Running (shape batch «in_feat» «out_feat») (now (x .entry)) (now (w .entry)) (now (y .entry))) ⌝ }
+    ensures { λ r. ⌜ (r, now (y .exit))
+        ≡ numbered (integerLayerSays FormatK.Q4K Meeting.Running (shape batch «in_feat» «out_feat») (now (x .entry))
+        (now (w .entry)) (now (y .entry))) ⌝ }
 {
     number_of(layers_integer::linear_q4_k_integer_rs(x, w, y, batch, in_feat, out_feat))
 }
@@ -96,7 +106,9 @@ pub extern "C" fn jambharrow_linear_q6_k_integer_rs(
     in_feat: usize,
     out_feat: usize,
 ) -> u32
-    ensures { λ r. ⌜ (r, now (y .exit)) ≡ numbered (integerLayerSays FormatK.Q6K Meeting.Running (shape batch «in_feat» «out_feat») (now (x .entry)) (now (w .entry)) (now (y .entry))) ⌝ }
+    ensures { λ r. ⌜ (r, now (y .exit))
+        ≡ numbered (integerLayerSays FormatK.Q6K Meeting.Running (shape batch «in_feat» «out_feat») (now (x .entry))
+        (now (w .entry)) (now (y .entry))) ⌝ }
 {
     number_of(layers_integer::linear_q6_k_integer_rs(x, w, y, batch, in_feat, out_feat))
 }
@@ -112,7 +124,9 @@ pub extern "C" fn jambharrow_linear_q4_k_cpu(
     in_feat: usize,
     out_feat: usize,
 ) -> u32
-    ensures { λ r. ⌜ (r, (now (y .exit), now (scratch .exit))) ≡ numbered (cpuSays (Format.OfK FormatK.Q4K) (shape batch «in_feat» «out_feat») (now (x .entry)) (now (w .entry)) (now (y .entry)) (now (scratch .entry))) ⌝ }
+    ensures { λ r. ⌜ (r, (now (y .exit), now (scratch .exit)))
+        ≡ numbered (cpuSays (Format.OfK FormatK.Q4K) (shape batch «in_feat» «out_feat») (now (x .entry))
+        (now (w .entry)) (now (y .entry)) (now (scratch .entry))) ⌝ }
 {
     number_of(layers_cpu::linear_q4_k_cpu(x, w, y, scratch, batch, in_feat, out_feat))
 }
@@ -128,7 +142,9 @@ pub extern "C" fn jambharrow_linear_q6_k_cpu(
     in_feat: usize,
     out_feat: usize,
 ) -> u32
-    ensures { λ r. ⌜ (r, (now (y .exit), now (scratch .exit))) ≡ numbered (cpuSays (Format.OfK FormatK.Q6K) (shape batch «in_feat» «out_feat») (now (x .entry)) (now (w .entry)) (now (y .entry)) (now (scratch .entry))) ⌝ }
+    ensures { λ r. ⌜ (r, (now (y .exit), now (scratch .exit)))
+        ≡ numbered (cpuSays (Format.OfK FormatK.Q6K) (shape batch «in_feat» «out_feat») (now (x .entry))
+        (now (w .entry)) (now (y .entry)) (now (scratch .entry))) ⌝ }
 {
     number_of(layers_cpu::linear_q6_k_cpu(x, w, y, scratch, batch, in_feat, out_feat))
 }
@@ -144,7 +160,9 @@ pub extern "C" fn jambharrow_linear_q4_0_cpu(
     in_feat: usize,
     out_feat: usize,
 ) -> u32
-    ensures { λ r. ⌜ (r, (now (y .exit), now (scratch .exit))) ≡ numbered (cpuSays (Format.Of32 Format32.Q40) (shape batch «in_feat» «out_feat») (now (x .entry)) (now (w .entry)) (now (y .entry)) (now (scratch .entry))) ⌝ }
+    ensures { λ r. ⌜ (r, (now (y .exit), now (scratch .exit)))
+        ≡ numbered (cpuSays (Format.Of32 Format32.Q40) (shape batch «in_feat» «out_feat») (now (x .entry))
+        (now (w .entry)) (now (y .entry)) (now (scratch .entry))) ⌝ }
 {
     number_of(layers_cpu::linear_q4_0_cpu(x, w, y, scratch, batch, in_feat, out_feat))
 }

@@ -18,7 +18,8 @@ pub extern "C" fn jambharrow_open(
     slots: &mut [f32],
     marks: &mut [u8],
 ) -> u32
-    ensures { λ r. ⌜ (r, (now (slots .exit), now (marks .exit))) ≡ numbered (openSays (layerOf format «in_feat» «out_feat») (now (slots .entry)) (now (marks .entry))) ⌝ }
+    ensures { λ r. ⌜ (r, (now (slots .exit), now (marks .exit)))
+        ≡ numbered (openSays (layerOf format «in_feat» «out_feat») (now (slots .entry)) (now (marks .entry))) ⌝ }
 {
     let layer = Layer {
         format,
@@ -41,7 +42,9 @@ pub extern "C" fn jambharrow_piece(
     slots: &mut [f32],
     marks: &mut [u8],
 ) -> u32
-    ensures { λ r. ⌜ (r, (now (slots .exit), now (marks .exit))) ≡ numbered (pieceSays (layerOf format «in_feat» «out_feat») (now (w .entry)) (now (x .entry)) row chunk (now (slots .entry)) (now (marks .entry))) ⌝ }
+    ensures { λ r. ⌜ (r, (now (slots .exit), now (marks .exit)))
+        ≡ numbered (pieceSays (layerOf format «in_feat» «out_feat») (now (w .entry)) (now (x .entry)) row chunk
+        (now (slots .entry)) (now (marks .entry))) ⌝ }
 {
     let layer = Layer {
         format,
@@ -65,7 +68,10 @@ pub extern "C" fn jambharrow_run(
     done: &mut usize,
     left: &mut usize,
 ) -> u32
-    ensures { λ r. ⌜ (r, ((now (done .exit), now (left .exit)), (now (slots .exit), now (marks .exit)))) ≡ runLaidOut (runSays (layerOf format «in_feat» «out_feat») (now (w .entry)) (now (x .entry)) budget (now (slots .entry)) (now (marks .entry))) (now (done .entry), now (left .entry)) ⌝ }
+    ensures { λ r. ⌜ (r, ((now (done .exit), now (left .exit)), (now (slots .exit), now (marks .exit))))
+        ≡ runLaidOut
+        (runSays (layerOf format «in_feat» «out_feat») (now (w .entry)) (now (x .entry)) budget (now (slots .entry))
+        (now (marks .entry))) (now (done .entry), now (left .entry)) ⌝ }
 {
     let layer = Layer {
         format,
@@ -86,7 +92,9 @@ pub extern "C" fn jambharrow_close(
     marks: &[u8],
     y: &mut [f32],
 ) -> u32
-    ensures { λ r. ⌜ (r, now (y .exit)) ≡ numbered (closeSays (layerOf format «in_feat» «out_feat») row (now (slots .entry)) (now (marks .entry)) (now (y .entry))) ⌝ }
+    ensures { λ r. ⌜ (r, now (y .exit))
+        ≡ numbered (closeSays (layerOf format «in_feat» «out_feat») row (now (slots .entry)) (now (marks .entry))
+        (now (y .entry))) ⌝ }
 {
     let layer = Layer {
         format,

@@ -1,6 +1,7 @@
 // Answers the windows of a record file: document 01's `fillin`.
 //
-// A program of this toolchain has no exit status of its own. Where an argument is given, the status is written to descriptor 3, from which the launcher takes it.
+// A program of this toolchain has no exit status of its own. Where an argument is given, the status is written to
+// descriptor 3, from which the launcher takes it.
 const STATUS: i32 = 3;
 
 fn main() {

@@ -28,7 +28,8 @@ pub record Response : Type 0 where
 abbrev pub windowNumber : State → ℕ
 windowNumber st = st .answered + st .refused + 1
 
--- the outputs of a layer: for each row, the fixed-order dot of the readings and the row decoded, which is the fused float dot
+-- the outputs of a layer: for each row, the fixed-order dot of the readings and the row decoded, which is the fused
+-- float dot
 abbrev pub outputsOf : Layer → List ℕ → List Float → List Float
 outputsOf l w x = table (inOneGo l w x) (l .«out_feat»)
 
@@ -37,19 +38,39 @@ abbrev pub respond : Found → List ℕ → State → List ℕ → Response
 respond ended p st w = record { text = endLine (st .answered) (st .refused); state = st; weights = w; over = true }
 respond (layer format inFeat outFeat next) p st w = record {
   text = layerLine format inFeat outFeat;
-  state = record { layer = layerOf format inFeat outFeat; «weight_bytes» = length (drop 9 p); offset = next; answered = st .answered; refused = st .refused };
+  state = record {
+    layer = layerOf format inFeat outFeat;
+    «weight_bytes» = length (drop 9 p);
+    offset = next;
+    answered
+        = st .answered;
+    refused = st .refused;
+  };
   weights = drop 9 p;
   over = false;
 }
 respond (window next) p st w = record {
   text = windowLine (windowNumber st) (outputsOf (st .layer) w (readingsIn p (st .layer)));
-  state = record { layer = st .layer; «weight_bytes» = st .«weight_bytes»; offset = next; answered = st .answered + 1; refused = st .refused };
+  state = record {
+    layer = st .layer;
+    «weight_bytes» = st .«weight_bytes»;
+    offset = next;
+    answered = st .answered
+        + 1;
+    refused = st .refused;
+  };
   weights = w;
   over = false;
 }
 respond (warmUp next) p st w = record {
   text = refusedLine (windowNumber st);
-  state = record { layer = st .layer; «weight_bytes» = st .«weight_bytes»; offset = next; answered = st .answered; refused = st .refused + 1 };
+  state = record {
+    layer = st .layer;
+    «weight_bytes» = st .«weight_bytes»;
+    offset = next;
+    answered = st .answered;
+    refused = st .refused + 1;
+  };
   weights = w;
   over = false;
 }

@@ -67,5 +67,6 @@ unfoldable pub byPieces : (most : ℕ) → (rest : List ℕ) → (ended : Bool) 
 byPieces zero rest ended pieces st w = []
 byPieces (suc most) rest ended pieces st w =
     byNext (nextIn rest ended)
-    (λ n. let a = answerTo st w (take n rest) in a .text ++ cond (a .over) [] (byPieces most (drop n rest) ended pieces (a .state) (a .weights)))
+    (λ n. let a = answerTo st w (take n rest) in a .text ++ cond (a .over) []
+    (byPieces most (drop n rest) ended pieces (a .state) (a .weights)))
     (byPieces most (rest ++ came pieces) (over pieces) (behind pieces) st w)

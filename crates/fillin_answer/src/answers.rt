@@ -57,8 +57,11 @@ fn take_layer(
     weights: &mut [u8],
     line: &mut [u8],
 ) -> Reply
-    requires { ⌜ (172 ≤ length (now line)) × (length (drop 9 (now payload)) ≤ length (now weights)) × (st .offset + size < 2 ^ 64) ⌝ }
-    ensures { λ r. ⌜ Replied (respond (layer (l .format) (l .«in_feat») (l .«out_feat») (st .offset + size)) (now (payload .entry)) st []) r (now (line .entry)) (now (line .exit)) ⌝ }
+    requires { ⌜ (172 ≤ length (now line)) × (length (drop 9 (now payload)) ≤ length (now weights))
+        × (st .offset + size < 2 ^ 64) ⌝ }
+    ensures { λ r. ⌜ Replied
+        (respond (layer (l .format) (l .«in_feat») (l .«out_feat») (st .offset + size)) (now (payload .entry)) st []) r
+        (now (line .entry)) (now (line .exit)) ⌝ }
     ensures { λ _. ⌜ now (weights .exit) ≡ laid (now (weights .entry)) 0 (drop 9 (now (payload .entry))) ⌝ }
 {
     let weight_bytes = bytes::copy(records::weights(payload), weights);
@@ -79,8 +82,10 @@ fn take_layer(
 
 // A window with warm-up readings: `refused 13`.
 fn refuse_window(st: State, size: usize, line: &mut [u8]) -> Reply
-    requires { ⌜ (172 ≤ length (now line)) × (st .offset + size < 2 ^ 64) × (st .answered + st .refused + 1 < 2 ^ 64) ⌝ }
-    ensures { λ r. ⌜ Replied (respond (warmUp (st .offset + size)) [] st []) r (now (line .entry)) (now (line .exit)) ⌝ }
+    requires { ⌜ (172 ≤ length (now line)) × (st .offset + size < 2 ^ 64)
+        × (st .answered + st .refused + 1 < 2 ^ 64) ⌝ }
+    ensures { λ r. ⌜ Replied (respond (warmUp (st .offset + size)) [] st []) r (now (line .entry))
+        (now (line .exit)) ⌝ }
 {
     let length = fillin_lines::refused_line(line, st.answered + st.refused + 1);
     let l = st.layer;
@@ -101,8 +106,10 @@ fn refuse_window(st: State, size: usize, line: &mut [u8]) -> Reply
 // A window for the latest layer: its outputs.
 fn answer_window(st: State, size: usize, payload: &[u8], weights: &[u8], line: &mut [u8]) -> Reply
     requires { ⌜ Held st × (172 ≤ length (now line)) × (length (now weights) ≡ st .«weight_bytes») ⌝ }
-    requires { ⌜ (length (now payload) ≡ st .layer .«in_feat» * 4) × (st .offset + size < 2 ^ 64) × (st .answered + st .refused + 1 < 2 ^ 64) ⌝ }
-    ensures { λ r. ⌜ Replied (respond (window (st .offset + size)) (now (payload .entry)) st (now (weights .entry))) r (now (line .entry)) (now (line .exit)) ⌝ }
+    requires { ⌜ (length (now payload) ≡ st .layer .«in_feat» * 4) × (st .offset + size < 2 ^ 64)
+        × (st .answered + st .refused + 1 < 2 ^ 64) ⌝ }
+    ensures { λ r. ⌜ Replied (respond (window (st .offset + size)) (now (payload .entry)) st (now (weights .entry))) r
+        (now (line .entry)) (now (line .exit)) ⌝ }
 {
     let l = st.layer;
     let rows = l.out_feat;
@@ -126,12 +133,18 @@ fn answer_window(st: State, size: usize, payload: &[u8], weights: &[u8], line: &
     }
 }
 
-// Answers the record that these bytes are: one record, or what is left of the input where that is less. The line's text stands at the front of `line`, and the latest layer's weights at the front of `weights`.
+// Answers the record that these bytes are: one record, or what is left of the input where that is less. The line's text
+// stands at the front of `line`, and the latest layer's weights at the front of `weights`.
 pub fn answer(st: State, record: &[u8], weights: &mut [u8], line: &mut [u8]) -> Reply
     requires { ⌜ Ready st (length (now «record»)) (length (now weights)) (length (now line)) ⌝ }
-    ensures { λ r. ⌜ Replied (answerTo st (take (st .«weight_bytes») (now (weights .entry))) (now («record» .entry))) r (now (line .entry)) (now (line .exit)) ⌝ }
-    ensures { λ _. ⌜ now (weights .exit) ≡ laid (now (weights .entry)) 0 (answerTo st (take (st .«weight_bytes») (now (weights .entry))) (now («record» .entry)) .weights) ⌝ }
-    ensures { λ r. ⌜ Held (r .state) × (r .state .offset ≤ st .offset + length (now («record» .entry))) × (r .state .answered + r .state .refused ≤ st .answered + st .refused + 1) × (r .length ≤ length (now (line .exit))) ⌝ }
+    ensures { λ r. ⌜ Replied (answerTo st (take (st .«weight_bytes») (now (weights .entry))) (now («record» .entry))) r
+        (now (line .entry)) (now (line .exit)) ⌝ }
+    ensures { λ _. ⌜ now (weights .exit)
+        ≡ laid (now (weights .entry)) 0
+        (answerTo st (take (st .«weight_bytes») (now (weights .entry))) (now («record» .entry)) .weights) ⌝ }
+    ensures { λ r. ⌜ Held (r .state) × (r .state .offset ≤ st .offset + length (now («record» .entry)))
+        × (r .state .answered + r .state .refused ≤ st .answered + st .refused + 1)
+        × (r .length ≤ length (now (line .exit))) ⌝ }
 {
     let l = st.layer;
     match records::read_at(record, 0, l.in_feat) {

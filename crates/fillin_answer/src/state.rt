@@ -3,7 +3,8 @@ use stepped_shape::Layer;
 ghost use mathlib.Core.Path.{_≡_};
 ghost use Rattle.fillin_answer.specs.Kept.{begun};
 
-// The latest layer, whose in_feat is 0 where there is none yet, and how many bytes its weights have; the next record's byte offset; and the windows answered and refused so far.
+// The latest layer, whose in_feat is 0 where there is none yet, and how many bytes its weights have; the next record's
+// byte offset; and the windows answered and refused so far.
 pub struct State {
     pub layer: Layer,
     pub weight_bytes: usize,

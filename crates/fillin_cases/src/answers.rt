@@ -16,7 +16,8 @@ fn write_field(name: &[u8], n: u64) {
     io::write_all(STDOUT_FILENO, b"\n");
 }
 
-// Answers what a desk reads: a line with the number before it, and one with the status behind it. The number of the next answer.
+// Answers what a desk reads: a line with the number before it, and one with the status behind it. The number of the
+// next answer.
 fn answer(number: u64, desk: Desk) -> u64
     requires { ⌜ 0 < desk .most ⌝ }
 {
@@ -55,7 +56,8 @@ fn answer_stored(number: u64, most: usize) -> u64
     next
 }
 
-// Answers a file that stands so many times, one behind the other, with at most so many bytes to a read. The number of the next answer.
+// Answers a file that stands so many times, one behind the other, with at most so many bytes to a read. The number of
+// the next answer.
 pub(crate) fn answer_file(number: u64, file: &[u8], times: usize, most: usize) -> u64
     requires { ⌜ 0 < most ⌝ }
 {

@@ -4,7 +4,8 @@ use crate::answers::answer_file;
 ghost use Prim.Native.Nat.{_+_, _≤_, _<_, _^_};
 ghost use lib.ListN.{length};
 
-// How a file is answered: at each of its cuts, from no bytes to all of them; with at most 1 byte to a read, then 2, and so on; a thousand times, one behind the
+// How a file is answered: at each of its cuts, from no bytes to all of them; with at most 1 byte to a read, then 2, and
+// so on; a thousand times, one behind the
 // other; and otherwise as it is.
 const AT_EACH_CUT: u8 = 1;
 

@@ -10,7 +10,8 @@ newline = 10 ∷ []
 
 -- Per layer: `layer`, format, in_feat, out_feat.
 unfoldable pub layerLine : (format inFeat outFeat : ℕ) → List ℕ
-layerLine format inFeat outFeat = (108 ∷ 97 ∷ 121 ∷ 101 ∷ 114 ∷ []) ++ (field format ++ (field inFeat ++ (field outFeat ++ newline)))
+layerLine format inFeat outFeat = (108 ∷ 97 ∷ 121 ∷ 101 ∷ 114 ∷ []) ++
+    (field format ++ (field inFeat ++ (field outFeat ++ newline)))
 
 -- how a window's line begins, answered or refused: `window` and its number
 unfoldable pub windowHead : ℕ → List ℕ
@@ -27,7 +28,8 @@ windowLine number ys = windowHead number ++ (outputFields ys ++ newline)
 
 -- .. or `refused 13`
 unfoldable pub refusedLine : ℕ → List ℕ
-refusedLine number = windowHead number ++ ((32 ∷ 114 ∷ 101 ∷ 102 ∷ 117 ∷ 115 ∷ 101 ∷ 100 ∷ 32 ∷ 49 ∷ 51 ∷ []) ++ newline)
+refusedLine number = windowHead number ++
+    ((32 ∷ 114 ∷ 101 ∷ 102 ∷ 117 ∷ 115 ∷ 101 ∷ 100 ∷ 32 ∷ 49 ∷ 51 ∷ []) ++ newline)
 
 -- `stop`, the number, the record's byte offset
 unfoldable pub stopLine : (num offset : ℕ) → List ℕ

@@ -55,7 +55,8 @@ pub fn refused_line(line: &mut [u8], number: u64) -> usize
 // A word of at most six letters, two numbers and a newline.
 fn word_and_two(line: &mut [u8], word: &[u8], one: u64, two: u64) -> usize
     requires { ⌜ (172 ≤ length (now line)) × (length (now word) ≤ 6) ⌝ }
-    ensures { λ _. ⌜ now (line .exit) ≡ laid (now (line .entry)) 0 (now (word .entry) ++ (field one ++ (field two ++ newline))) ⌝ }
+    ensures { λ _. ⌜ now (line .exit)
+        ≡ laid (now (line .entry)) 0 (now (word .entry) ++ (field one ++ (field two ++ newline))) ⌝ }
     ensures { λ r. ⌜ (r ≡ length (now (word .entry) ++ (field one ++ (field two ++ newline)))) × (r ≤ 172) ⌝ }
 {
     let a = put(line, 0, word);

@@ -12,7 +12,8 @@ ghost use lib.ListN.{length};
 ghost use Rattle.fillin_answer.specs.Kept.{Ready};
 ghost use Rattle.fillin_loop.specs.Turns.{Kept};
 
-// A proved loop has to end, and nothing says that the input does: so many turns are taken at most, 2^48, each of which reads once or answers a record. At a million a second they take nine years.
+// A proved loop has to end, and nothing says that the input does: so many turns are taken at most, 2^48, each of which
+// reads once or answers a record. At a million a second they take nine years.
 const MOST_TURNS: u64 = 281_474_976_710_656;
 
 // How the answering ended.
@@ -21,7 +22,8 @@ pub enum Ending {
     Ended,
     // With the line `stop`.
     Stopped,
-    // The input could not be read on, or a line not be written, or there were too many turns: the transcript has neither.
+    // The input could not be read on, or a line not be written, or there were too many turns: the transcript has
+    // neither.
     Unreadable,
     Unwritable,
     TooMany,
@@ -96,7 +98,8 @@ fn answer_one(desk: Desk, st: State, record: &[u8], weights: &mut [u8], line: &m
 
 // Answers records until one ends the transcript, or reading or writing fails.
 fn answer_records(desk: Desk, buf: &mut [u8], weights: &mut [u8], line: &mut [u8]) -> Ending
-    requires { ⌜ (0 < desk .most) × (32772 ≤ length (now buf)) × (26880 ≤ length (now weights)) × (172 ≤ length (now line)) ⌝ }
+    requires { ⌜ (0 < desk .most) × (32772 ≤ length (now buf)) × (26880 ≤ length (now weights))
+        × (172 ≤ length (now line)) ⌝ }
 {
     let mut st = fillin_answer::start();
     let mut progress = Progress::begin(desk.output);

@@ -7,7 +7,8 @@ ghost use lib.ListN.{length, take};
 ghost use Rattle.memory.specs.Lists.{part};
 ghost use Rattle.fillin_loop.specs.Input.{Within, ReadOn};
 
-// The bytes that are read ahead at most: twice the longest record, so that one which is not all there has room behind it.
+// The bytes that are read ahead at most: twice the longest record, so that one which is not all there has room behind
+// it.
 pub(crate) const ROOM: usize = 65_544;
 
 // Where records come from and where lines go, by their descriptors, and how many bytes one read takes at most.
@@ -28,7 +29,8 @@ pub fn standard() -> Desk
     }
 }
 
-// The bytes of a buffer that have come and are not answered yet, from a place to another; whether nothing follows them, and whether they cannot be read on.
+// The bytes of a buffer that have come and are not answered yet, from a place to another; whether nothing follows them,
+// and whether they cannot be read on.
 pub(crate) struct Unread {
     pub from: usize,
     pub to: usize,
@@ -67,7 +69,8 @@ fn smaller(a: usize, b: usize) -> usize
     if a < b { a } else { b }
 }
 
-// What one read gave: so many bytes at the front of what it was lent, none where the input has ended or the read failed.
+// What one read gave: so many bytes at the front of what it was lent, none where the input has ended or the read
+// failed.
 struct Came {
     bytes: usize,
     failed: bool,
@@ -85,7 +88,8 @@ fn read_some(input: i32, buf: &mut [u8]) -> Came
     }
 }
 
-// Reads on: the bytes that are not answered yet are moved to the front, and one read puts more behind them, or nothing where the input has ended.
+// Reads on: the bytes that are not answered yet are moved to the front, and one read puts more behind them, or nothing
+// where the input has ended.
 pub(crate) fn read_on(desk: Desk, buf: &mut [u8], unread: Unread) -> Unread
     requires { ⌜ Within (now buf) unread × (unread .to - unread .from < length (now buf)) × (0 < desk .most) ⌝ }
     ensures { λ r. ⌜ ReadOn (now (buf .entry)) unread (now (buf .exit)) r ⌝ }

@@ -19,7 +19,8 @@ const MOST_PIECES: usize = 16;
 
 // Closes every row of a layer that has no open piece.
 fn close_rows(l: Layer, slots: &[f32], marks: &[u8], y: &mut [f32]) -> Outcome
-    requires { ⌜ (openNo l (length (now slots)) (length (now marks)) ≡ none) × (openOf l (now marks) ≡ 0) × (l .«out_feat» ≤ length (now y)) ⌝ }
+    requires { ⌜ (openNo l (length (now slots)) (length (now marks)) ≡ none) × (openOf l (now marks) ≡ 0)
+        × (l .«out_feat» ≤ length (now y)) ⌝ }
     ensures { λ r. ⌜ outcomeSays r ≡ done ⌝ }
     ensures { λ _. ⌜ now (y .exit) ≡ filled (rowMet l (now (slots .entry))) (now (y .entry)) (l .«out_feat») ⌝ }
 {
@@ -37,7 +38,8 @@ fn close_rows(l: Layer, slots: &[f32], marks: &[u8], y: &mut [f32]) -> Outcome
 fn fill_outputs(l: Layer, w: &[u8], x: &[f32], y: &mut [f32]) -> Outcome
     requires { ⌜ (workNo l (length (now w)) (length (now x)) 16 16 ≡ none) × (l .«out_feat» ≤ length (now y)) ⌝ }
     ensures { λ r. ⌜ outcomeSays r ≡ done ⌝ }
-    ensures { λ _. ⌜ now (y .exit) ≡ filled (inOneGo l (now (w .entry)) (now (x .entry))) (now (y .entry)) (l .«out_feat») ⌝ }
+    ensures { λ _. ⌜ now (y .exit)
+        ≡ filled (inOneGo l (now (w .entry)) (now (x .entry))) (now (y .entry)) (l .«out_feat») ⌝ }
 {
     let mut slots = [0.0f32; MOST_PIECES];
     let mut marks = [0u8; MOST_PIECES];
@@ -61,9 +63,11 @@ fn readings_room() -> [f32; records::MOST_IN]
 
 // The outputs of a layer for the window with this payload.
 pub fn window_outputs(l: Layer, w: &[u8], payload: &[u8], y: &mut [f32]) -> Outcome
-    requires { ⌜ (workNo l (length (now w)) (l .«in_feat») 16 16 ≡ none) × (l .«in_feat» ≤ 2048) × (length (now payload) ≡ l .«in_feat» * 4) × (l .«out_feat» ≤ length (now y)) ⌝ }
+    requires { ⌜ (workNo l (length (now w)) (l .«in_feat») 16 16 ≡ none) × (l .«in_feat» ≤ 2048)
+        × (length (now payload) ≡ l .«in_feat» * 4) × (l .«out_feat» ≤ length (now y)) ⌝ }
     ensures { λ r. ⌜ outcomeSays r ≡ done ⌝ }
-    ensures { λ _. ⌜ now (y .exit) ≡ filled (inOneGo l (now (w .entry)) (readingsIn (now (payload .entry)) l)) (now (y .entry)) (l .«out_feat») ⌝ }
+    ensures { λ _. ⌜ now (y .exit)
+        ≡ filled (inOneGo l (now (w .entry)) (readingsIn (now (payload .entry)) l)) (now (y .entry)) (l .«out_feat») ⌝ }
 {
     let inputs = l.in_feat;
     let mut x = readings_room();

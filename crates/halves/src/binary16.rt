@@ -49,7 +49,8 @@ pub fn f16_to_f32(half: u16) -> f32
     normal(sign, exp + 112, mant + 1024)
 }
 
-// The exponent's field and the digits of a narrowed binary32, whose exponent's field is `exp` and whose ten leading digits are `mant`.
+// The exponent's field and the digits of a narrowed binary32, whose exponent's field is `exp` and whose ten leading
+// digits are `mant`.
 fn narrowed_magnitude(exp: u32, mant: u32) -> u16
     requires { ⌜ mant < 1024 ⌝ }
     ensures { λ r. ⌜ (r ≡ magnitude16 exp mant) × (r < 32768) ⌝ }

@@ -1,4 +1,5 @@
--- How a row's activation blocks are held: block t has its scale at t, its quants from 256 t on and its sums from 8 t on. Only the contracts of the loops cite this. Definitions only.
+-- How a row's activation blocks are held: block t has its scale at t, its quants from 256 t on and its sums from 8 t
+-- on. Only the contracts of the loops cite this. Definitions only.
 use Prim.Native.Nat.{ℕ, _*_, _≤_, _<_}
 use mathlib.Core.Path.{_≡_}
 use mathlib.Core.List.{List}

@@ -1,4 +1,5 @@
-// A row's activation blocks, held as their parts: block t has its scale at t, its quants from 256 t on and its sums from 8 t on.
+// A row's activation blocks, held as their parts: block t has its scale at t, its quants from 256 t on and its sums
+// from 8 t on.
 use crate::meeting::Meeting;
 use crate::meeting::meet;
 use layouts::Format;
@@ -35,7 +36,8 @@ fn lay_sums(eight: &[i32], out: &mut [i32])
 // Quantises a row of readings, whole blocks.
 pub fn hold_row(x: &[f32], ds: &mut [f32], qs: &mut [i8], sums: &mut [i32])
     requires { ⌜ (length (now x) ≤ mostIn) × HeldRoom (length (now x) / 256) (now ds) (now qs) (now sums) ⌝ }
-    ensures { λ _. ⌜ Holds (now (x .entry)) (length (now (x .entry)) / 256) (now (ds .exit)) (now (qs .exit)) (now (sums .exit)) ⌝ }
+    ensures { λ _. ⌜ Holds (now (x .entry)) (length (now (x .entry)) / 256) (now (ds .exit)) (now (qs .exit))
+        (now (sums .exit)) ⌝ }
 {
     let blocks = x.len() / 256;
     for t in 0..blocks {
@@ -55,7 +57,8 @@ pub fn hold_row(x: &[f32], ds: &mut [f32], qs: &mut [i8], sums: &mut [i32])
 // The dot of a packed block and the activation block held at t.
 fn held_dot(format: FormatK, w: &[u8], t: usize, ds: &[f32], qs: &[i8], sums: &[i32]) -> f32
     requires { ⌜ (length (now w) ≡ bytesK format) × (t < 512) × HeldRow (t + 1) (now ds) (now qs) (now sums) ⌝ }
-    ensures { λ r. ⌜ r ≡ blockDot format (now (w .entry)) (blockHeld (now (ds .entry)) (now (qs .entry)) (now (sums .entry)) t) 256 ⌝ }
+    ensures { λ r. ⌜ r ≡ blockDot format (now (w .entry))
+        (blockHeld (now (ds .entry)) (now (qs .entry)) (now (sums .entry)) t) 256 ⌝ }
 {
     let from = 256 * t;
     let to = from + 256;
@@ -79,8 +82,11 @@ pub fn row_dot(
     sums: &[i32],
     parts: &mut [f32],
 ) -> f32
-    requires { ⌜ (length (now parts) ≤ 512) × (length (now parts) * bytesK format ≤ length (now w)) × HeldRow (length (now parts)) (now ds) (now qs) (now sums) ⌝ }
-    ensures { λ r. ⌜ r ≡ meets meeting (heldDot format (now (w .entry)) (now (ds .entry)) (now (qs .entry)) (now (sums .entry))) (length (now (parts .entry))) ⌝ }
+    requires { ⌜ (length (now parts) ≤ 512) × (length (now parts) * bytesK format ≤ length (now w))
+        × HeldRow (length (now parts)) (now ds) (now qs) (now sums) ⌝ }
+    ensures { λ r. ⌜ r ≡ meets meeting
+        (heldDot format (now (w .entry)) (now (ds .entry)) (now (qs .entry)) (now (sums .entry)))
+        (length (now (parts .entry))) ⌝ }
 {
     let size = layouts::block_bytes(Format::OfK(format));
     for t in 0..parts.len() {

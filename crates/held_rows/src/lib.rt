@@ -1,4 +1,5 @@
-// A row of readings that is quantised once and held, its dot with a row of packed weights, and how the dots of its blocks meet. There is no heap: a row's blocks are held in arrays that the caller lends.
+// A row of readings that is quantised once and held, its dot with a row of packed weights, and how the dots of its
+// blocks meet. There is no heap: a row's blocks are held in arrays that the caller lends.
 mod held;
 mod meeting;
 

@@ -36,7 +36,9 @@ pub fn minimum_q4k(block: &[u8], j: usize) -> u8
 // Q4_K's eight products d*scale.
 pub fn scales_q4k(block: &[u8]) -> [f32; 8]
     requires { ⌜ length (now block) ≡ 144 ⌝ }
-    ensures { λ r. ⌜ r ≡ table (λ j. mul binary32 (dOf FormatK.Q4K (now (block .entry))) (ofInt binary32 (pos (scaleQ4K (now (block .entry)) j)))) 8 ⌝ }
+    ensures { λ r. ⌜ r ≡ table
+        (λ j. mul binary32 (dOf FormatK.Q4K (now (block .entry)))
+        (ofInt binary32 (pos (scaleQ4K (now (block .entry)) j)))) 8 ⌝ }
 {
     let d = halves::f16_to_f32(numbers::le_u16(block[0], block[1]));
     let mut s = [0.0f32; 8];
@@ -49,7 +51,9 @@ pub fn scales_q4k(block: &[u8]) -> [f32; 8]
 // Q4_K's eight products dmin*minimum.
 pub fn minimums_q4k(block: &[u8]) -> [f32; 8]
     requires { ⌜ length (now block) ≡ 144 ⌝ }
-    ensures { λ r. ⌜ r ≡ table (λ j. mul binary32 (dminOf (now (block .entry))) (ofInt binary32 (pos (minimumQ4K (now (block .entry)) j)))) 8 ⌝ }
+    ensures { λ r. ⌜ r ≡ table
+        (λ j. mul binary32 (dminOf (now (block .entry))) (ofInt binary32 (pos (minimumQ4K (now (block .entry)) j))))
+        8 ⌝ }
 {
     let dmin = halves::f16_to_f32(numbers::le_u16(block[2], block[3]));
     let mut m = [0.0f32; 8];
@@ -118,7 +122,9 @@ pub fn quants_q6k(block: &[u8]) -> [i8; 256]
 // Q6_K's sixteen products d*scale, one for each run of 16.
 pub fn scales_q6k(block: &[u8]) -> [f32; 16]
     requires { ⌜ length (now block) ≡ 210 ⌝ }
-    ensures { λ r. ⌜ r ≡ table (λ e. mul binary32 (dOf FormatK.Q6K (now (block .entry))) (ofInt binary32 (scaleQ6K (now (block .entry)) (16 * e)))) 16 ⌝ }
+    ensures { λ r. ⌜ r ≡ table
+        (λ e. mul binary32 (dOf FormatK.Q6K (now (block .entry)))
+        (ofInt binary32 (scaleQ6K (now (block .entry)) (16 * e)))) 16 ⌝ }
 {
     let d = halves::f16_to_f32(numbers::le_u16(block[208], block[209]));
     let mut s = [0.0f32; 16];

@@ -1,4 +1,5 @@
--- How the `_cpu` layers fill the output: a row of weights is decoded once, and serves its place in every row of the output. Only the contracts of their loops cite this. Definitions only.
+-- How the `_cpu` layers fill the output: a row of weights is decoded once, and serves its place in every row of the
+-- output. Only the contracts of their loops cite this. Definitions only.
 use Prim.Native.Nat.{ℕ, zero, suc, _+_, _*_}
 use mathlib.Core.List.{List}
 use lib.ListN.{set}

@@ -1,4 +1,5 @@
--- What the `_cpu` layers say, and what their memory holds then: `linear_q4_k_cpu`, `linear_q6_k_cpu`, `linear_q4_0_cpu`. Definitions only.
+-- What the `_cpu` layers say, and what their memory holds then: `linear_q4_k_cpu`, `linear_q6_k_cpu`,
+-- `linear_q4_0_cpu`. Definitions only.
 use Prim.Native.Nat.{ℕ, _+_, _-_, _*_, _/_, _%_}
 use mathlib.Core.Bool.{not, cond}
 use mathlib.Core.List.{List}
@@ -21,8 +22,10 @@ use Rattle.layers_shape.specs.Shapes.{oversize, readingRow, outputs}
 abbrev pub rowWeight : Format → List ℕ → ℕ → ℕ → ℕ → Float
 rowWeight f w n o i = weightAt f w (o * n + i)
 
--- Why a `_cpu` layer says no, given so many readings, weight bytes, output and scratch places. Any other length than what is needed is refused, but for scratch, which may be longer.
--- The K formats look at the readings and the output first, and need no whole blocks to a row: two rows of 128 share one.
+-- Why a `_cpu` layer says no, given so many readings, weight bytes, output and scratch places. Any other length than
+-- what is needed is refused, but for scratch, which may be longer.
+-- The K formats look at the readings and the output first, and need no whole blocks to a row: two rows of 128 share
+-- one.
 unfoldable pub cpuNo : Format → Shape → ℕ → ℕ → ℕ → ℕ → ℕ
 cpuNo (OfK f) s readings weights places scratch =
     given 6 (oversize s)
@@ -48,10 +51,12 @@ decodedDotAt f x w n o = rowSum (products x (table (rowWeight f w n o) n)) n
 -- scratch afterwards holds the last row decoded, or is untouched if batch or out_feat is 0
 unfoldable pub scratchAfter : Format → Shape → List ℕ → List Float → List Float
 scratchAfter f s w scratch =
-    cond (eqb (s .batch * s .«out_feat») 0) scratch (filled (rowWeight f w (s .«in_feat») (s .«out_feat» - 1)) scratch (s .«in_feat»))
+    cond (eqb (s .batch * s .«out_feat») 0) scratch
+    (filled (rowWeight f w (s .«in_feat») (s .«out_feat» - 1)) scratch (s .«in_feat»))
 
 -- every output is the dot of its rows, beside what scratch holds
-unfoldable pub cpuSays : Format → Shape → List Float → List ℕ → List Float → List Float → Said × (List Float × List Float)
+unfoldable pub cpuSays : Format → Shape → List Float → List ℕ → List Float → List Float → Said
+    × (List Float × List Float)
 cpuSays f s x w y scratch =
     carriedOut (cpuNo f s (length x) (length w) (length y) (length scratch))
     (outputs (λ b o. decodedDotAt f (readingRow x s b) w (s .«in_feat») o) s y, scratchAfter f s w scratch)

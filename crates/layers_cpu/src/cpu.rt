@@ -22,8 +22,12 @@ ghost use Rattle.layers_cpu.specs.Columns.{column};
 // Place o of every row of the output: the dot of each row of readings and one row of weights, decoded.
 fn fill_column(x: &[f32], row: &[f32], y: &mut [f32], s: Shape, o: usize) -> Outcome
     requires { ⌜ (s .batch ≤ mostBatch) × (s .«in_feat» ≤ mostIn) × (s .«out_feat» ≤ mostOut) × (o < s .«out_feat») ⌝ }
-    requires { ⌜ (s .batch * s .«in_feat» ≤ length (now x)) × (length (now row) ≡ s .«in_feat») × (s .batch * s .«out_feat» ≤ length (now y)) ⌝ }
-    ensures { λ r. ⌜ (outcomeSays r ≡ done) × (now (y .exit) ≡ column (λ b. rowSum (products (readingRow (now (x .entry)) s b) (now (row .entry))) (s .«in_feat»)) (s .«out_feat») o (now (y .entry)) (s .batch)) ⌝ }
+    requires { ⌜ (s .batch * s .«in_feat» ≤ length (now x)) × (length (now row) ≡ s .«in_feat»)
+        × (s .batch * s .«out_feat» ≤ length (now y)) ⌝ }
+    ensures { λ r. ⌜ (outcomeSays r ≡ done)
+        × (now (y .exit)
+        ≡ column (λ b. rowSum (products (readingRow (now (x .entry)) s b) (now (row .entry))) (s .«in_feat»))
+        (s .«out_feat») o (now (y .entry)) (s .batch)) ⌝ }
 {
     let n = s.in_feat;
     let outs = s.out_feat;
@@ -49,7 +53,8 @@ fn all_columns(
     s: Shape,
 ) -> Outcome
     requires { ⌜ cpuNo format s (length (now x)) (length (now w)) (length (now y)) (length (now scratch)) ≡ 0 ⌝ }
-    ensures { λ r. ⌜ (outcomeSays r, (now (y .exit), now (scratch .exit))) ≡ cpuSays format s (now (x .entry)) (now (w .entry)) (now (y .entry)) (now (scratch .entry)) ⌝ }
+    ensures { λ r. ⌜ (outcomeSays r, (now (y .exit), now (scratch .exit)))
+        ≡ cpuSays format s (now (x .entry)) (now (w .entry)) (now (y .entry)) (now (scratch .entry)) ⌝ }
 {
     let n = s.in_feat;
     if s.batch == 0 {
@@ -73,7 +78,8 @@ fn cpu_layer(
     scratch: &mut [f32],
     s: Shape,
 ) -> Outcome
-    ensures { λ r. ⌜ (outcomeSays r, (now (y .exit), now (scratch .exit))) ≡ cpuSays format s (now (x .entry)) (now (w .entry)) (now (y .entry)) (now (scratch .entry)) ⌝ }
+    ensures { λ r. ⌜ (outcomeSays r, (now (y .exit), now (scratch .exit)))
+        ≡ cpuSays format s (now (x .entry)) (now (w .entry)) (now (y .entry)) (now (scratch .entry)) ⌝ }
 {
     let no = cpu_no(format, s, x.len(), w.len(), y.len(), scratch.len());
     if no != 0 {
@@ -82,7 +88,8 @@ fn cpu_layer(
     all_columns(format, x, w, y, scratch, s)
 }
 
-// Scratch has room for in_feat floats, and afterwards holds the last row decoded, or is untouched where batch or out_feat is 0.
+// Scratch has room for in_feat floats, and afterwards holds the last row decoded, or is untouched where batch or
+// out_feat is 0.
 pub fn linear_q4_k_cpu(
     x: &[f32],
     w: &[u8],
@@ -92,7 +99,9 @@ pub fn linear_q4_k_cpu(
     in_feat: usize,
     out_feat: usize,
 ) -> Outcome
-    ensures { λ r. ⌜ (outcomeSays r, (now (y .exit), now (scratch .exit))) ≡ cpuSays (Format.OfK FormatK.Q4K) (shape batch «in_feat» «out_feat») (now (x .entry)) (now (w .entry)) (now (y .entry)) (now (scratch .entry)) ⌝ }
+    ensures { λ r. ⌜ (outcomeSays r, (now (y .exit), now (scratch .exit)))
+        ≡ cpuSays (Format.OfK FormatK.Q4K) (shape batch «in_feat» «out_feat») (now (x .entry)) (now (w .entry))
+        (now (y .entry)) (now (scratch .entry)) ⌝ }
 {
     let s = Shape {
         batch,
@@ -112,7 +121,9 @@ pub fn linear_q6_k_cpu(
     in_feat: usize,
     out_feat: usize,
 ) -> Outcome
-    ensures { λ r. ⌜ (outcomeSays r, (now (y .exit), now (scratch .exit))) ≡ cpuSays (Format.OfK FormatK.Q6K) (shape batch «in_feat» «out_feat») (now (x .entry)) (now (w .entry)) (now (y .entry)) (now (scratch .entry)) ⌝ }
+    ensures { λ r. ⌜ (outcomeSays r, (now (y .exit), now (scratch .exit)))
+        ≡ cpuSays (Format.OfK FormatK.Q6K) (shape batch «in_feat» «out_feat») (now (x .entry)) (now (w .entry))
+        (now (y .entry)) (now (scratch .entry)) ⌝ }
 {
     let s = Shape {
         batch,
@@ -132,7 +143,9 @@ pub fn linear_q4_0_cpu(
     in_feat: usize,
     out_feat: usize,
 ) -> Outcome
-    ensures { λ r. ⌜ (outcomeSays r, (now (y .exit), now (scratch .exit))) ≡ cpuSays (Format.Of32 Format32.Q40) (shape batch «in_feat» «out_feat») (now (x .entry)) (now (w .entry)) (now (y .entry)) (now (scratch .entry)) ⌝ }
+    ensures { λ r. ⌜ (outcomeSays r, (now (y .exit), now (scratch .exit)))
+        ≡ cpuSays (Format.Of32 Format32.Q40) (shape batch «in_feat» «out_feat») (now (x .entry)) (now (w .entry))
+        (now (y .entry)) (now (scratch .entry)) ⌝ }
 {
     let s = Shape {
         batch,

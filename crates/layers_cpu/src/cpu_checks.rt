@@ -7,7 +7,8 @@ ghost use mathlib.Core.Path.{_≡_};
 ghost use Prim.Native.Nat.{_^_, _<_};
 ghost use Rattle.layers_cpu.specs.Says.{cpuNo};
 
-// Over a K format: 6, 4, 5, 1, 3, and 5 for scratch, in this order; 0 where it does not. A slice has fewer than 2^63 places, so the product of its blocks fits.
+// Over a K format: 6, 4, 5, 1, 3, and 5 for scratch, in this order; 0 where it does not. A slice has fewer than 2^63
+// places, so the product of its blocks fits.
 fn cpu_k_no(
     format: FormatK,
     s: Shape,

@@ -1,4 +1,5 @@
--- What the fused layers say, and what their memory holds then: `linear_q4_k_fused`, `linear_q6_k_fused`. Definitions only.
+-- What the fused layers say, and what their memory holds then: `linear_q4_k_fused`, `linear_q6_k_fused`. Definitions
+-- only.
 use Prim.Native.Nat.{ℕ}
 use mathlib.Core.List.{List}
 use lib.ListN.{length}
@@ -18,4 +19,5 @@ fusedDotAt f x w n o = rowSum (terms f x (weightRow f w n o)) n
 -- 6, 2, 3, 4, 5; and otherwise every output is the fused dot of its rows
 unfoldable pub fusedLayerSays : FormatK → Shape → List Float → List ℕ → List Float → Said × List Float
 fusedLayerSays f s x w y =
-    carriedOut (layerNo f s (length x) (length w) (length y)) (outputs (λ b o. fusedDotAt f (readingRow x s b) w (s .«in_feat») o) s y) y
+    carriedOut (layerNo f s (length x) (length w) (length y))
+    (outputs (λ b o. fusedDotAt f (readingRow x s b) w (s .«in_feat») o) s y) y

@@ -15,8 +15,12 @@ ghost use Rattle.layers_fused.specs.Says.{fusedDotAt, fusedLayerSays};
 
 // The outputs of one row of readings, a place for each row of weights.
 fn one_row(format: FormatK, x: &[f32], w: &[u8], y: &mut [f32]) -> Outcome
-    requires { ⌜ (length (now x) ≤ mostIn) × (length (now x) % 256 ≡ 0) × (length (now y) ≤ mostOut) × (length (now y) * rowBytes format (length (now x)) ≤ length (now w)) ⌝ }
-    ensures { λ r. ⌜ (outcomeSays r ≡ done) × (now (y .exit) ≡ table (fusedDotAt format (now (x .entry)) (now (w .entry)) (length (now (x .entry)))) (length (now (y .entry)))) ⌝ }
+    requires { ⌜ (length (now x) ≤ mostIn) × (length (now x) % 256 ≡ 0) × (length (now y) ≤ mostOut)
+        × (length (now y) * rowBytes format (length (now x)) ≤ length (now w)) ⌝ }
+    ensures { λ r. ⌜ (outcomeSays r ≡ done)
+        × (now (y .exit)
+        ≡ table (fusedDotAt format (now (x .entry)) (now (w .entry)) (length (now (x .entry))))
+        (length (now (y .entry)))) ⌝ }
 {
     let n = x.len();
     let size = layers_shape::row_bytes(format, n);
@@ -35,7 +39,8 @@ fn one_row(format: FormatK, x: &[f32], w: &[u8], y: &mut [f32]) -> Outcome
 // The outputs of every row of readings.
 fn all_rows(format: FormatK, x: &[f32], w: &[u8], y: &mut [f32], s: Shape) -> Outcome
     requires { ⌜ layerNo format s (length (now x)) (length (now w)) (length (now y)) ≡ 0 ⌝ }
-    ensures { λ r. ⌜ (outcomeSays r, now (y .exit)) ≡ fusedLayerSays format s (now (x .entry)) (now (w .entry)) (now (y .entry)) ⌝ }
+    ensures { λ r. ⌜ (outcomeSays r, now (y .exit))
+        ≡ fusedLayerSays format s (now (x .entry)) (now (w .entry)) (now (y .entry)) ⌝ }
 {
     let n = s.in_feat;
     let outs = s.out_feat;
@@ -53,7 +58,8 @@ fn all_rows(format: FormatK, x: &[f32], w: &[u8], y: &mut [f32], s: Shape) -> Ou
 }
 
 fn fused_layer(format: FormatK, x: &[f32], w: &[u8], y: &mut [f32], s: Shape) -> Outcome
-    ensures { λ r. ⌜ (outcomeSays r, now (y .exit)) ≡ fusedLayerSays format s (now (x .entry)) (now (w .entry)) (now (y .entry)) ⌝ }
+    ensures { λ r. ⌜ (outcomeSays r, now (y .exit))
+        ≡ fusedLayerSays format s (now (x .entry)) (now (w .entry)) (now (y .entry)) ⌝ }
 {
     let no = layers_shape::layer_no(format, s, x.len(), w.len(), y.len());
     if no != 0 {
@@ -71,7 +77,9 @@ pub fn linear_q4_k_fused(
     in_feat: usize,
     out_feat: usize,
 ) -> Outcome
-    ensures { λ r. ⌜ (outcomeSays r, now (y .exit)) ≡ fusedLayerSays FormatK.Q4K (shape batch «in_feat» «out_feat») (now (x .entry)) (now (w .entry)) (now (y .entry)) ⌝ }
+    ensures { λ r. ⌜ (outcomeSays r, now (y .exit))
+        ≡ fusedLayerSays FormatK.Q4K (shape batch «in_feat» «out_feat») (now (x .entry)) (now (w .entry))
+        (now (y .entry)) ⌝ }
 {
     let s = Shape {
         batch,
@@ -90,7 +98,9 @@ pub fn linear_q6_k_fused(
     in_feat: usize,
     out_feat: usize,
 ) -> Outcome
-    ensures { λ r. ⌜ (outcomeSays r, now (y .exit)) ≡ fusedLayerSays FormatK.Q6K (shape batch «in_feat» «out_feat») (now (x .entry)) (now (w .entry)) (now (y .entry)) ⌝ }
+    ensures { λ r. ⌜ (outcomeSays r, now (y .exit))
+        ≡ fusedLayerSays FormatK.Q6K (shape batch «in_feat» «out_feat») (now (x .entry)) (now (w .entry))
+        (now (y .entry)) ⌝ }
 {
     let s = Shape {
         batch,

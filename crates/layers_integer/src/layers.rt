@@ -18,7 +18,8 @@ fn integer_layer(
     y: &mut [f32],
     s: Shape,
 ) -> Outcome
-    ensures { λ r. ⌜ (outcomeSays r, now (y .exit)) ≡ integerLayerSays format meeting s (now (x .entry)) (now (w .entry)) (now (y .entry)) ⌝ }
+    ensures { λ r. ⌜ (outcomeSays r, now (y .exit))
+        ≡ integerLayerSays format meeting s (now (x .entry)) (now (w .entry)) (now (y .entry)) ⌝ }
 {
     let no = layers_shape::layer_no(format, s, x.len(), w.len(), y.len());
     if no != 0 {
@@ -41,7 +42,9 @@ pub fn linear_q4_k_integer(
     in_feat: usize,
     out_feat: usize,
 ) -> Outcome
-    ensures { λ r. ⌜ (outcomeSays r, now (y .exit)) ≡ integerLayerSays FormatK.Q4K Meeting.Tree (shape batch «in_feat» «out_feat») (now (x .entry)) (now (w .entry)) (now (y .entry)) ⌝ }
+    ensures { λ r. ⌜ (outcomeSays r, now (y .exit))
+        ≡ integerLayerSays FormatK.Q4K Meeting.Tree (shape batch «in_feat» «out_feat») (now (x .entry)) (now (w .entry))
+        (now (y .entry)) ⌝ }
 {
     let s = Shape {
         batch,
@@ -60,7 +63,9 @@ pub fn linear_q6_k_integer(
     in_feat: usize,
     out_feat: usize,
 ) -> Outcome
-    ensures { λ r. ⌜ (outcomeSays r, now (y .exit)) ≡ integerLayerSays FormatK.Q6K Meeting.Tree (shape batch «in_feat» «out_feat») (now (x .entry)) (now (w .entry)) (now (y .entry)) ⌝ }
+    ensures { λ r. ⌜ (outcomeSays r, now (y .exit))
+        ≡ integerLayerSays FormatK.Q6K Meeting.Tree (shape batch «in_feat» «out_feat») (now (x .entry)) (now (w .entry))
+        (now (y .entry)) ⌝ }
 {
     let s = Shape {
         batch,
@@ -79,7 +84,9 @@ pub fn linear_q4_k_integer_rs(
     in_feat: usize,
     out_feat: usize,
 ) -> Outcome
-    ensures { λ r. ⌜ (outcomeSays r, now (y .exit)) ≡ integerLayerSays FormatK.Q4K Meeting.Running (shape batch «in_feat» «out_feat») (now (x .entry)) (now (w .entry)) (now (y .entry)) ⌝ }
+    ensures { λ r. ⌜ (outcomeSays r, now (y .exit))
+        ≡ integerLayerSays FormatK.Q4K Meeting.Running (shape batch «in_feat» «out_feat») (now (x .entry))
+        (now (w .entry)) (now (y .entry)) ⌝ }
 {
     let s = Shape {
         batch,
@@ -98,7 +105,9 @@ pub fn linear_q6_k_integer_rs(
     in_feat: usize,
     out_feat: usize,
 ) -> Outcome
-    ensures { λ r. ⌜ (outcomeSays r, now (y .exit)) ≡ integerLayerSays FormatK.Q6K Meeting.Running (shape batch «in_feat» «out_feat») (now (x .entry)) (now (w .entry)) (now (y .entry)) ⌝ }
+    ensures { λ r. ⌜ (outcomeSays r, now (y .exit))
+        ≡ integerLayerSays FormatK.Q6K Meeting.Running (shape batch «in_feat» «out_feat») (now (x .entry))
+        (now (w .entry)) (now (y .entry)) ⌝ }
 {
     let s = Shape {
         batch,

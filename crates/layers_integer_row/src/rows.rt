@@ -26,8 +26,12 @@ fn one_row(
     parts: &mut [f32],
     y: &mut [f32],
 )
-    requires { ⌜ (length (now parts) ≤ 512) × (length (now y) ≤ mostOut) × (length (now y) * (length (now parts) * bytesK format) ≤ length (now w)) × HeldRow (length (now parts)) (now ds) (now qs) (now sums) ⌝ }
-    ensures { λ _. ⌜ now (y .exit) ≡ table (heldRowDot format meeting (now (w .entry)) (now (ds .entry)) (now (qs .entry)) (now (sums .entry)) (length (now (parts .entry)))) (length (now (y .entry))) ⌝ }
+    requires { ⌜ (length (now parts) ≤ 512) × (length (now y) ≤ mostOut)
+        × (length (now y) * (length (now parts) * bytesK format) ≤ length (now w))
+        × HeldRow (length (now parts)) (now ds) (now qs) (now sums) ⌝ }
+    ensures { λ _. ⌜ now (y .exit)
+        ≡ table (heldRowDot format meeting (now (w .entry)) (now (ds .entry)) (now (qs .entry)) (now (sums .entry))
+        (length (now (parts .entry)))) (length (now (y .entry))) ⌝ }
 {
     let size = parts.len() * layouts::block_bytes(Format::OfK(format));
     for o in 0..y.len() {
@@ -50,8 +54,10 @@ fn all_rows(
     parts: &mut [f32],
     y: &mut [f32],
 )
-    requires { ⌜ (layerNo format s (length (now x)) (length (now w)) (length (now y)) ≡ 0) × (length (now parts) ≡ s .«in_feat» / 256) × HeldRoom (s .«in_feat» / 256) (now ds) (now qs) (now sums) ⌝ }
-    ensures { λ _. ⌜ now (y .exit) ≡ integerOutputs format meeting s (now (x .entry)) (now (w .entry)) (now (y .entry)) ⌝ }
+    requires { ⌜ (layerNo format s (length (now x)) (length (now w)) (length (now y)) ≡ 0)
+        × (length (now parts) ≡ s .«in_feat» / 256) × HeldRoom (s .«in_feat» / 256) (now ds) (now qs) (now sums) ⌝ }
+    ensures { λ _. ⌜ now (y .exit)
+        ≡ integerOutputs format meeting s (now (x .entry)) (now (w .entry)) (now (y .entry)) ⌝ }
 {
     let n = s.in_feat;
     let outs = s.out_feat;
@@ -68,7 +74,8 @@ fn all_rows(
 // Rows of at most 16 blocks: to clear room for 512 takes longer than such a row's dot.
 pub fn rows_of_16(format: FormatK, meeting: Meeting, x: &[f32], w: &[u8], y: &mut [f32], s: Shape)
     requires { ⌜ (layerNo format s (length (now x)) (length (now w)) (length (now y)) ≡ 0) × (s .«in_feat» ≤ 4096) ⌝ }
-    ensures { λ _. ⌜ now (y .exit) ≡ integerOutputs format meeting s (now (x .entry)) (now (w .entry)) (now (y .entry)) ⌝ }
+    ensures { λ _. ⌜ now (y .exit)
+        ≡ integerOutputs format meeting s (now (x .entry)) (now (w .entry)) (now (y .entry)) ⌝ }
 {
     let blocks = s.in_feat / 256;
     let mut ds = [0.0f32; 16];
@@ -92,7 +99,8 @@ pub fn rows_of_16(format: FormatK, meeting: Meeting, x: &[f32], w: &[u8], y: &mu
 // Rows of at most 512 blocks, which is every row.
 pub fn rows_of_512(format: FormatK, meeting: Meeting, x: &[f32], w: &[u8], y: &mut [f32], s: Shape)
     requires { ⌜ layerNo format s (length (now x)) (length (now w)) (length (now y)) ≡ 0 ⌝ }
-    ensures { λ _. ⌜ now (y .exit) ≡ integerOutputs format meeting s (now (x .entry)) (now (w .entry)) (now (y .entry)) ⌝ }
+    ensures { λ _. ⌜ now (y .exit)
+        ≡ integerOutputs format meeting s (now (x .entry)) (now (w .entry)) (now (y .entry)) ⌝ }
 {
     let blocks = s.in_feat / 256;
     let mut ds = [0.0f32; 512];

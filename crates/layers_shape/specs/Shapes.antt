@@ -23,7 +23,8 @@ oversize s = ltb mostBatch (s .batch) || (ltb mostIn (s .«in_feat») || ltb mos
 abbrev pub rowBytes : FormatK → ℕ → ℕ
 rowBytes f n = n / 256 * bytesK f
 
--- Why a fused, integer or `_rs` layer says no, given so many readings, weight bytes and output places. Needs are products of the stated sizes, also when batch or out_feat is 0.
+-- Why a fused, integer or `_rs` layer says no, given so many readings, weight bytes and output places. Needs are
+-- products of the stated sizes, also when batch or out_feat is 0.
 unfoldable pub layerNo : FormatK → Shape → ℕ → ℕ → ℕ → ℕ
 layerNo f s readings weights places =
     given 6 (oversize s)

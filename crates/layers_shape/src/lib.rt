@@ -34,7 +34,8 @@ pub fn row_bytes(format: FormatK, n: usize) -> usize
     n / 256 * layouts::block_bytes(Format::OfK(format))
 }
 
-// Why a layer of this shape says no, given so many readings, weight bytes and output places: 6, 2, 3, 4, 5, in this order; 0 where it does not.
+// Why a layer of this shape says no, given so many readings, weight bytes and output places: 6, 2, 3, 4, 5, in this
+// order; 0 where it does not.
 pub fn layer_no(format: FormatK, s: Shape, readings: usize, weights: usize, places: usize) -> u32
     ensures { λ r. ⌜ r ≡ layerNo format s readings weights places ⌝ }
 {

@@ -18,11 +18,13 @@ use Rattle.layouts.specs.declared.format.FormatK.the-variants.{Q4K, Q6K}
 abbrev pub scaleByte : List ℕ → ℕ → ℕ
 scaleByte bs j = getD bs (4 + j) 0
 
--- For j below 4 the scale is the low six bits of byte j. Otherwise it is the low nibble of byte j+4 plus 16 times the top two bits of byte j-4.
+-- For j below 4 the scale is the low six bits of byte j. Otherwise it is the low nibble of byte j+4 plus 16 times the
+-- top two bits of byte j-4.
 unfoldable pub scaleQ4K : List ℕ → ℕ → ℕ
 scaleQ4K bs j = cond (ltb j 4) (scaleByte bs j % 64) (scaleByte bs (j + 4) % 16 + 16 * (scaleByte bs (j - 4) / 64))
 
--- For j below 4 the minimum is the low six bits of byte j+4. Otherwise it is the high nibble of byte j+4 plus 16 times the top two bits of byte j.
+-- For j below 4 the minimum is the low six bits of byte j+4. Otherwise it is the high nibble of byte j+4 plus 16 times
+-- the top two bits of byte j.
 unfoldable pub minimumQ4K : List ℕ → ℕ → ℕ
 minimumQ4K bs j = cond (ltb j 4) (scaleByte bs (j + 4) % 64) (scaleByte bs (j + 4) / 16 + 16 * (scaleByte bs j / 64))
 
@@ -30,11 +32,15 @@ minimumQ4K bs j = cond (ltb j 4) (scaleByte bs (j + 4) % 64) (scaleByte bs (j + 
 unfoldable pub quantQ4K : List ℕ → ℕ → ℕ
 quantQ4K bs i = nibble (getD bs (16 + (32 * (i / 64) + i % 32)) 0) (i / 32 % 2)
 
--- ---- Q6_K: 210 bytes: 128 low bytes, 64 high bytes, 16 signed scales, d. Two halves of 128, each with 64 low bytes, 32 high bytes and 8 scales
+-- ---- Q6_K: 210 bytes: 128 low bytes, 64 high bytes, 16 signed scales, d. Two halves of 128, each with 64 low bytes,
+-- 32 high bytes and 8 scales
 
--- In half h, for l below 32, values l, l+32, l+64, l+96, of quarter t, take the low nibbles of low bytes l and l+32, then their high nibbles, with bit pairs 0, 2, 4, 6 of high byte l above them, less 32.
+-- In half h, for l below 32, values l, l+32, l+64, l+96, of quarter t, take the low nibbles of low bytes l and l+32,
+-- then their high nibbles, with bit pairs 0, 2, 4, 6 of high byte l above them, less 32.
 abbrev pub sixBits : List ℕ → ℕ → ℕ → ℕ → ℤ
-sixBits bs h t l = pos (nibble (getD bs (64 * h + (32 * (t % 2) + l)) 0) (t / 2) + 16 * (getD bs (128 + (32 * h + l)) 0 / 2 ^ (2 * t) % 4)) -ℤ pos 32
+sixBits bs h t l = pos
+    (nibble (getD bs (64 * h + (32 * (t % 2) + l)) 0) (t / 2) + 16 * (getD bs (128 + (32 * h + l)) 0 / 2 ^ (2 * t) % 4))
+    -ℤ pos 32
 
 -- the whole number at place i
 unfoldable pub quantQ6K : List ℕ → ℕ → ℤ
@@ -67,9 +73,11 @@ dminOf bs = widened (le16 bs 2)
 
 -- (d*scale)*q at place i
 abbrev pub scaledQuant : FormatK → List ℕ → ℕ → Float
-scaledQuant f bs i = mul binary32 (mul binary32 (dOf f bs) (ofInt binary32 (scaleK f bs i))) (ofInt binary32 (quantK f bs i))
+scaledQuant f bs i = mul binary32 (mul binary32 (dOf f bs) (ofInt binary32 (scaleK f bs i)))
+    (ofInt binary32 (quantK f bs i))
 
 -- Value. Q4_K: (d*scale)*q - (dmin*minimum); Q6_K: (d*scale)*q.
 abbrev pub valueK : FormatK → List ℕ → ℕ → Float
-valueK Q4K bs i = sub binary32 (scaledQuant Q4K bs i) (mul binary32 (dminOf bs) (ofInt binary32 (pos (minimumQ4K bs (i / 32)))))
+valueK Q4K bs i = sub binary32 (scaledQuant Q4K bs i)
+    (mul binary32 (dminOf bs) (ofInt binary32 (pos (minimumQ4K bs (i / 32)))))
 valueK Q6K bs i = scaledQuant Q6K bs i

@@ -1,4 +1,5 @@
-// The formats, by the values that a block has. A format's name is written without its underscore, which has a meaning of its own in a definition.
+// The formats, by the values that a block has. A format's name is written without its underscore, which has a meaning
+// of its own in a definition.
 ghost use mathlib.Core.Path.{_≡_};
 ghost use mathlib.Core.Bool.{true};
 ghost use Rattle.layouts.specs.Formats.{bytes32, bytesK, blockBytes, blockValues, knownFormat, formatOf};

@@ -33,7 +33,8 @@ unfoldable pub quantOf : Target → List Float → ℕ → ℤ
 quantOf Q40 xs i = quantQ40 (scaledReading Q40 xs i)
 quantOf Q80 xs i = quantQ8 (scaledReading Q80 xs i)
 
--- byte k after the scale. Q4_0: the quants of readings 2k and 2k+1 in its low and its high nibble. Q8_0: that of reading k.
+-- byte k after the scale. Q4_0: the quants of readings 2k and 2k+1 in its low and its high nibble. Q8_0: that of
+-- reading k.
 unfoldable pub quantByte : Target → List Float → ℕ → ℕ
 quantByte Q40 xs k = byteOf (quantOf Q40 xs (2 * k)) + 16 * byteOf (quantOf Q40 xs (2 * k + 1))
 quantByte Q80 xs k = byteOf (quantOf Q80 xs k)

@@ -12,7 +12,8 @@ use Rattle.memory.specs.Lists.{filled, part}
 use Rattle.quantizers.specs.Blocks.{blockSize, byteAt}
 use Rattle.quantizers.specs.declared.target.Target.{Target}
 
--- byte i of the quantised readings: byte i mod size of block i / size, which is made of the 32 readings from 32 (i / size) on
+-- byte i of the quantised readings: byte i mod size of block i / size, which is made of the 32 readings from 32 (i /
+-- size) on
 unfoldable pub packedAt : Target → List Float → ℕ → ℕ
 packedAt t xs i = byteAt t (part xs (i / blockSize t * 32) 32) (i % blockSize t)
 

@@ -30,7 +30,9 @@ fn stored_scale(d: f32) -> u16
 // Q4_0's quants: those of readings 2k and 2k+1 share byte k.
 fn write_quants_q4_0(x: &[f32], inverse: f32, out: &mut [u8])
     requires { ⌜ (length (now x) ≡ 32) × (length (now out) ≡ 16) ⌝ }
-    ensures { λ _. ⌜ now (out .exit) ≡ table (λ k. byteOf (quantQ40 (mul binary32 (getD (now (x .entry)) (2 * k) nan) inverse)) + 16 * byteOf (quantQ40 (mul binary32 (getD (now (x .entry)) (2 * k + 1) nan) inverse))) 16 ⌝ }
+    ensures { λ _. ⌜ now (out .exit)
+        ≡ table (λ k. byteOf (quantQ40 (mul binary32 (getD (now (x .entry)) (2 * k) nan) inverse))
+        + 16 * byteOf (quantQ40 (mul binary32 (getD (now (x .entry)) (2 * k + 1) nan) inverse))) 16 ⌝ }
 {
     for k in 0..16usize {
         let low = readings::round_q4_0(x[2 * k] * inverse);
@@ -42,7 +44,8 @@ fn write_quants_q4_0(x: &[f32], inverse: f32, out: &mut [u8])
 // Q8_0's quants, a signed byte each.
 fn write_quants_q8_0(x: &[f32], inverse: f32, out: &mut [u8])
     requires { ⌜ (length (now x) ≡ 32) × (length (now out) ≡ 32) ⌝ }
-    ensures { λ _. ⌜ now (out .exit) ≡ table (λ k. byteOf (quantQ8 (mul binary32 (getD (now (x .entry)) k nan) inverse))) 32 ⌝ }
+    ensures { λ _. ⌜ now (out .exit)
+        ≡ table (λ k. byteOf (quantQ8 (mul binary32 (getD (now (x .entry)) k nan) inverse))) 32 ⌝ }
 {
     for k in 0..32usize {
         out[k] = numbers::unsigned_byte(readings::round_q8(x[k] * inverse));

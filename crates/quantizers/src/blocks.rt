@@ -13,7 +13,8 @@ ghost use Rattle.quantizers.specs.Says.{packedAt, bytesFor, quantizeNo, 
 // The bytes of the whole blocks of 32 readings, at the front of the output.
 fn quantize_blocks(target: Target, x: &[f32], out: &mut [u8])
     requires { ⌜ bytesFor target (length (now x)) ≤ length (now out) ⌝ }
-    ensures { λ _. ⌜ now (out .exit) ≡ filled (packedAt target (now (x .entry))) (now (out .entry)) (bytesFor target (length (now (x .entry)))) ⌝ }
+    ensures { λ _. ⌜ now (out .exit)
+        ≡ filled (packedAt target (now (x .entry))) (now (out .entry)) (bytesFor target (length (now (x .entry)))) ⌝ }
 {
     let size = block_size(target);
     let count = x.len() / 32;

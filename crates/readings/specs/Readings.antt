@@ -26,9 +26,11 @@ inverse d = cond (eq d nought) nought (div binary32 (ofBits binary32 0x3f80_0000
 abbrev pub held : ℤ → ℤ → ℤ → ℤ
 held lo hi z = cond (ltZ z lo) lo (cond (ltZ hi z) hi z)
 
--- Q8, of a reading times the inverse: plus 0.5 if that product is at least 0, else minus 0.5; truncate; hold within -127..127.
+-- Q8, of a reading times the inverse: plus 0.5 if that product is at least 0, else minus 0.5; truncate; hold within
+-- -127..127.
 unfoldable pub quantQ8 : Float → ℤ
-quantQ8 p = held (negsuc 126) (pos 127) (truncated (add binary32 p (cond (le nought p) (ofBits binary32 0x3f00_0000) (ofBits binary32 0xbf00_0000))))
+quantQ8 p = held (negsuc 126) (pos 127)
+    (truncated (add binary32 p (cond (le nought p) (ofBits binary32 0x3f00_0000) (ofBits binary32 0xbf00_0000))))
 
 -- Q4_0, of a reading times the inverse: plus 8.5; truncate; hold within 0..15.
 unfoldable pub quantQ40 : Float → ℤ

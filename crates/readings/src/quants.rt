@@ -24,7 +24,8 @@ fn down_to(r: f32, c: f32) -> f32
     if c < r { r - 1.0 } else { r }
 }
 
-// The whole part of c, which is +0.0 or above it, and below 256. From 2^23 on an f32 has no fraction, so adding 2^23 rounds c
+// The whole part of c, which is +0.0 or above it, and below 256. From 2^23 on an f32 has no fraction, so adding 2^23
+// rounds c
 // to a whole number next to it, and taking 2^23 off again is exact.
 fn small_whole(c: f32) -> i32
     requires { ⌜ ((c ≡ nought) ⊎ (lt nought c ≡ true)) × (lt c (ofBits binary32 0x4380_0000) ≡ true) ⌝ }
@@ -42,7 +43,8 @@ fn held_whole(t: f32, most: u8) -> i32
     small_whole(smaller_of(larger_of(0.0, t), most as f32))
 }
 
-// The Q8 quant of p, a reading times the inverse. The rule is the same on both sides of 0, so it is the magnitude that is rounded.
+// The Q8 quant of p, a reading times the inverse. The rule is the same on both sides of 0, so it is the magnitude that
+// is rounded.
 pub fn round_q8(p: f32) -> i8
     ensures { λ r. ⌜ r ≡ quantQ8 p ⌝ }
 {

@@ -60,7 +60,8 @@ unfoldable pub hasZero : List ℕ → ℕ → Bool
 hasZero p zero = false
 hasZero p (suc n) = hasZero p n || eqb (le32 p (n * 4)) 0
 
--- no layer, whose in_feat stands as 0, or wrong size, 11; a window holding a value with all bits zero is a warm-up window, 13
+-- no layer, whose in_feat stands as 0, or wrong size, 11; a window holding a value with all bits zero is a warm-up
+-- window, 13
 unfoldable pub windowNo : List ℕ → ℕ → ℕ
 windowNo p latest =
     given 11 (eqb latest 0)

@@ -1,4 +1,5 @@
--- Document 01's "The record reader": a record's frame, the kinds and what they mean, what stands at an offset, and records that come in pieces.
+-- Document 01's "The record reader": a record's frame, the kinds and what they mean, what stands at an offset, and
+-- records that come in pieces.
 pub mod Frame
 pub mod Kinds
 pub mod Found

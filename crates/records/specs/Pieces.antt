@@ -8,6 +8,7 @@ use Rattle.records.specs.declared.frame.Next.{Next}
 use Rattle.records.specs.declared.frame.Next.the-variants.{Bytes, More}
 use Rattle.records.specs.Frame.{sizeOf}
 
--- the next record at the front of what has come and is not answered yet: a whole one, or, where the input has ended, all that is left
+-- the next record at the front of what has come and is not answered yet: a whole one, or, where the input has ended,
+-- all that is left
 unfoldable pub nextIn : List ℕ → (ended : Bool) → Next
 nextIn rest ended = cond (leb (sizeOf rest) (length rest)) (Bytes (sizeOf rest)) (cond ended (Bytes (length rest)) More)

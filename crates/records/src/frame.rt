@@ -40,7 +40,8 @@ pub enum Next {
     More,
 }
 
-// The next record at the front of what has come and is not answered yet, which nothing follows where the input has ended.
+// The next record at the front of what has come and is not answered yet, which nothing follows where the input has
+// ended.
 pub fn next_record(rest: &[u8], ended: bool) -> Next
     ensures { λ r. ⌜ r ≡ nextIn (now (rest .entry)) ended ⌝ }
 {

@@ -62,7 +62,8 @@ fn window_item(p: &[u8], latest: usize, next: usize) -> Item
     Item::Refused(no)
 }
 
-// What stands at i, where the latest layer takes `latest` readings, or 0 where there is none yet. Refuses 11, 12, 11, 12, 6, 2, 11 and 13, in document 01's order.
+// What stands at i, where the latest layer takes `latest` readings, or 0 where there is none yet. Refuses 11, 12, 11,
+// 12, 6, 2, 11 and 13, in document 01's order.
 pub fn read_at(s: &[u8], i: usize, latest: usize) -> Item
     ensures { λ r. ⌜ itemSays r ≡ foundAt (now (s .entry)) i latest ⌝ }
 {

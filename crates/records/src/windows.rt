@@ -31,7 +31,8 @@ fn has_zero(p: &[u8], n: usize) -> bool
     false
 }
 
-// Why a window's payload is refused, after a latest layer of so many readings, 0 where there is none yet; 0 where it is not refused.
+// Why a window's payload is refused, after a latest layer of so many readings, 0 where there is none yet; 0 where it is
+// not refused.
 pub(crate) fn window_no(p: &[u8], latest: usize) -> u32
     ensures { λ r. ⌜ r ≡ windowNo (now (p .entry)) latest ⌝ }
 {

@@ -20,7 +20,8 @@ fn judge_block(bytes: &[u8], x: &mut [f32], number: u32, theirs: Q8Block) -> Fin
     Finding::of_same(ours.no == number && same_blocks(block, theirs))
 }
 
-// A payload is how many readings there are, the readings, the number that says no, 0 where there is none, and the block, which is of zeros where there is none.
+// A payload is how many readings there are, the readings, the number that says no, 0 where there is none, and the
+// block, which is of zeros where there is none.
 fn judge_quantize_block_q8(payload: &[u8]) -> Finding {
     let count = u32_at(payload, 0) as usize;
     if count > READINGS {
@@ -44,7 +45,8 @@ fn block_dot(format: FormatK, w: &[u8], xq: Q8Block, n: usize) -> Answer {
     }
 }
 
-// A payload is n, how many packed bytes there are, these, the activation block, the number that says no, 0 where there is none, and the value.
+// A payload is n, how many packed bytes there are, these, the activation block, the number that says no, 0 where there
+// is none, and the value.
 fn judge_block_dot(format: FormatK, payload: &[u8]) -> Finding {
     let n = u32_at(payload, 0) as usize;
     let count = u32_at(payload, 4) as usize;

@@ -38,7 +38,8 @@ fn answer_on(
     answer(call, x, w, n)
 }
 
-// A payload is n, how many readings and weights there are, these, the number that says no, 0 where there is none, and the value.
+// A payload is n, how many readings and weights there are, these, the number that says no, 0 where there is none, and
+// the value.
 // A call that takes no n or no weights has 0 there.
 fn judge_rows(call: OfRows, payload: &[u8]) -> Finding {
     let n = u32_at(payload, 0) as usize;
@@ -70,7 +71,8 @@ fn judge_rows(call: OfRows, payload: &[u8]) -> Finding {
     Finding::of_answer(ours, number, value)
 }
 
-// Our sum of the list whose bits stand in these bytes, read into `list`, beside theirs, and what then stands in it beside what they left.
+// Our sum of the list whose bits stand in these bytes, read into `list`, beside theirs, and what then stands in it
+// beside what they left.
 fn judge_list(bytes: &[u8], list: &mut [f32], sum: f32, left: &[u8]) -> Finding {
     read_floats(bytes, list);
     let ours = sums::canonical_combine(list);

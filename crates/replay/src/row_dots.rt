@@ -27,7 +27,8 @@ fn answer_on(dot: RowDot, n: usize, bytes: &[u8], x: &mut [f32], w: &[u8]) -> An
     answer(dot, x, w, n)
 }
 
-// A payload is n, how many readings and packed bytes there are, these, the number that says no, 0 where there is none, and the value.
+// A payload is n, how many readings and packed bytes there are, these, the number that says no, 0 where there is none,
+// and the value.
 fn judge_row(dot: RowDot, payload: &[u8]) -> Finding {
     let n = u32_at(payload, 0) as usize;
     let x_len = u32_at(payload, 4) as usize;

@@ -1,5 +1,7 @@
-// The stepped layer, by histories of calls. A payload is the format, in four bytes as the counts behind it, in_feat, out_feat, how many packed bytes and pieces there are, the readings, the
-// bytes, the row and the chunk of each piece in the order of the calls, and the dot of each row, which is the Rust's in one go. What the pieces leave open
+// The stepped layer, by histories of calls. A payload is the format, in four bytes as the counts behind it, in_feat,
+// out_feat, how many packed bytes and pieces there are, the readings, the
+// bytes, the row and the chunk of each piece in the order of the calls, and the dot of each row, which is the Rust's in
+// one go. What the pieces leave open
 // is done by runs of one piece, and then every row is closed.
 use stepped::Progress;
 use stepped_shape::Layer;
@@ -71,7 +73,8 @@ fn rows_close(l: Layer, slots: &[f32], marks: &[u8], y: &mut [f32]) -> bool {
     true
 }
 
-// Whether no call of the history is refused: an open, the pieces that are named, runs of the rest, and a close of each row.
+// Whether no call of the history is refused: an open, the pieces that are named, runs of the rest, and a close of each
+// row.
 fn plays(l: Layer, w: &[u8], x: &[f32], named: &[u8], y: &mut [f32]) -> bool {
     let mut slots = [STOOD; PIECES];
     let mut marks = [MARKED; PIECES];

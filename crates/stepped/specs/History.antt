@@ -1,4 +1,5 @@
--- Demand 3: the history of a layer, which is an open that was not refused and then any calls of piece, run and close, refused ones among them, over the same buffers, shape, readings and weights. Definitions only.
+-- Demand 3: the history of a layer, which is an open that was not refused and then any calls of piece, run and close,
+-- refused ones among them, over the same buffers, shape, readings and weights. Definitions only.
 use Prim.Native.Nat.{ℕ, _+_}
 use mathlib.Core.Path.{_≡_}
 use mathlib.Core.List.{List, [], _∷_, List·Memᴰ}
@@ -67,10 +68,24 @@ call l w x s (piece row c) =
     record { slots = r .1 .0; marks = r .1 .1; outputs = s .outputs; accepted = s .accepted + acceptedBy (r .0); closed = s .closed }
 call l w x s (run budget) =
     let r = runSays l w x budget (s .slots) (s .marks) in
-    record { slots = r .1 .0; marks = r .1 .1; outputs = s .outputs; accepted = s .accepted + acceptedByRun (r .0); closed = s .closed }
+    record {
+      slots = r .1 .0;
+      marks = r .1 .1;
+      outputs = s .outputs;
+      accepted = s .accepted
+          + acceptedByRun (r .0);
+      closed = s .closed;
+    }
 call l w x s (close row) =
     let r = closeSays l row (s .slots) (s .marks) (s .outputs) in
-    record { slots = s .slots; marks = s .marks; outputs = r .1; accepted = s .accepted; closed = closedBy (r .0) row (s .closed) }
+    record {
+      slots = s .slots;
+      marks = s .marks;
+      outputs = r .1;
+      accepted = s .accepted;
+      closed = closedBy (r .0) row
+          (s .closed);
+    }
 
 -- the calls, one after another
 unfoldable pub calls : Layer → List ℕ → List Float → State → List Call → State
@@ -83,7 +98,8 @@ opened l slots marks outputs =
     let r = openSays l slots marks in
     record { slots = r .1 .0; marks = r .1 .1; outputs = outputs; accepted = 0; closed = [] }
 
--- each closed row has the bits of decoding that row by the published layout and taking the fixed-order dot in one go, or both are NaN; pieces accepted plus pieces open is the layer's piece count
+-- each closed row has the bits of decoding that row by the published layout and taking the fixed-order dot in one go,
+-- or both are NaN; pieces accepted plus pieces open is the layer's piece count
 pub record Demand3 (l : Layer) (w : List ℕ) (x : List Float) (s : State) : Type 0 where
   pub rows : (row : ℕ) → List·Memᴰ row (s .closed) → getD (s .outputs) row nan ≡ inOneGo l w x row
   pub counted : s .accepted + openOf l (s .marks) ≡ pieces l

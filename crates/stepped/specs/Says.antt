@@ -1,4 +1,5 @@
--- What `open`, `run` and `close` say and what lent memory holds then: functions of the layer, its weights and readings, and the lists that came in. Definitions only.
+-- What `open`, `run` and `close` say and what lent memory holds then: functions of the layer, its weights and readings,
+-- and the lists that came in. Definitions only.
 use Prim.Native.Nat.{ℕ, zero, suc, _+_, min}
 use mathlib.Core.Bool.{_&&_, cond}
 use mathlib.Core.List.{List}
@@ -30,7 +31,8 @@ noMark i = 0
 -- `open`: the slots and the marks of every piece are cleared; surplus ones are kept
 unfoldable pub openSays : Layer → List Float → List ℕ → Said × (List Float × List ℕ)
 openSays l slots marks =
-    carriedOut (openNo l (length slots) (length marks)) (filled noSum slots (pieces l), filled noMark marks (pieces l)) (slots, marks)
+    carriedOut (openNo l (length slots) (length marks)) (filled noSum slots (pieces l), filled noMark marks (pieces l))
+    (slots, marks)
 
 -- ---- run does the next open pieces in row order, chunks rising, at most as many as its budget
 
@@ -77,7 +79,8 @@ abbrev pub progressSays : Progress → RunSaid
 progressSays (progress.Ran done left) = ran done left
 progressSays (progress.Refused num) = refused num
 
--- A refusal returns its number and leaves all lent memory as it found it: the two counts and `new` where run did its work, and `old` where it refused.
+-- A refusal returns its number and leaves all lent memory as it found it: the two counts and `new` where run did its
+-- work, and `old` where it refused.
 unfoldable pub ranOut : ℕ → (done left : ℕ) → {A : Type 0} → A → A → RunSaid × A
 ranOut zero done left new old = (ran done left, new)
 ranOut (suc num) done left new old = (refused (suc num), old)
@@ -86,9 +89,11 @@ ranOut (suc num) done left new old = (refused (suc num), old)
 unfoldable pub runSays : Layer → List ℕ → List Float → ℕ → List Float → List ℕ → RunSaid × (List Float × List ℕ)
 runSays l w x budget slots marks =
     let after = runWork l w x budget slots marks in
-    ranOut (workNo l (length w) (length x) (length slots) (length marks)) (min budget (openOf l marks)) (openOf l (marksOf after)) (slotsOf after, marksOf after) (slots, marks)
+    ranOut (workNo l (length w) (length x) (length slots) (length marks)) (min budget (openOf l marks))
+    (openOf l (marksOf after)) (slotsOf after, marksOf after) (slots, marks)
 
--- ---- close writes that row's output, its slots met in the tree; the slots stay as they are, and closing again is allowed
+-- ---- close writes that row's output, its slots met in the tree; the slots stay as they are, and closing again is
+-- allowed
 
 -- the row's slots met in the tree; an empty tree, of an in_feat of 0, is +0.0
 unfoldable pub rowMet : Layer → List Float → ℕ → Float
@@ -96,4 +101,5 @@ rowMet l slots row = tree (table (λ c. getD slots (place l row c) nan) (chunks 
 
 -- `close`: the row's output; the other outputs are kept
 unfoldable pub closeSays : Layer → ℕ → List Float → List ℕ → List Float → Said × List Float
-closeSays l row slots marks y = carriedOut (closeNo l (length slots) marks (length y) row) (set y row (rowMet l slots row)) y
+closeSays l row slots marks y = carriedOut (closeNo l (length slots) marks (length y) row)
+    (set y row (rowMet l slots row)) y

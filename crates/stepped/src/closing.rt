@@ -33,7 +33,8 @@ fn meet(l: Layer, row: usize, slots: &[f32]) -> f32
 
 // Writes the row's output; closing again is allowed. Refuses 12, 6, 2, 5, 8 and 10, in this order.
 pub fn close(l: Layer, row: usize, slots: &[f32], marks: &[u8], y: &mut [f32]) -> Outcome
-    ensures { λ r. ⌜ (outcomeSays r, now (y .exit)) ≡ closeSays l row (now (slots .entry)) (now (marks .entry)) (now (y .entry)) ⌝ }
+    ensures { λ r. ⌜ (outcomeSays r, now (y .exit))
+        ≡ closeSays l row (now (slots .entry)) (now (marks .entry)) (now (y .entry)) ⌝ }
 {
     let no = close_no(l, slots.len(), marks, y.len(), row);
     if no != 0 {

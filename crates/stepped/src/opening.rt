@@ -33,7 +33,8 @@ fn clear_marks(marks: &mut [u8])
 
 // Clears the marks and the slots of every piece. Refuses 12, 6, 2 and 5, in this order.
 pub fn open(l: Layer, slots: &mut [f32], marks: &mut [u8]) -> Outcome
-    ensures { λ r. ⌜ (outcomeSays r, (now (slots .exit), now (marks .exit))) ≡ openSays l (now (slots .entry)) (now (marks .entry)) ⌝ }
+    ensures { λ r. ⌜ (outcomeSays r, (now (slots .exit), now (marks .exit)))
+        ≡ openSays l (now (slots .entry)) (now (marks .entry)) ⌝ }
 {
     let no = open_no(l, slots.len(), marks.len());
     if no != 0 {

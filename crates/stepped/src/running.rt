@@ -26,8 +26,10 @@ fn work_open(
     slots: &mut [f32],
     marks: &mut [u8],
 ) -> usize
-    requires { ⌜ LayerReady l (length (now w)) (length (now x)) × PieceRoom l (length (now slots)) (length (now marks)) ⌝ }
-    ensures { λ r. ⌜ work (now (slots .exit)) (now (marks .exit)) r ≡ runWork l (now (w .entry)) (now (x .entry)) budget (now (slots .entry)) (now (marks .entry)) ⌝ }
+    requires { ⌜ LayerReady l (length (now w)) (length (now x))
+        × PieceRoom l (length (now slots)) (length (now marks)) ⌝ }
+    ensures { λ r. ⌜ work (now (slots .exit)) (now (marks .exit)) r
+        ≡ runWork l (now (w .entry)) (now (x .entry)) budget (now (slots .entry)) (now (marks .entry)) ⌝ }
 {
     let rows = l.out_feat;
     let chunks = chunks_of(l);
@@ -47,7 +49,8 @@ fn work_open(
     done
 }
 
-// Works at most `budget` open pieces, and says how many it did and how many stay open. Refuses 12, 6, 2, 3, 4 and 5, in this order.
+// Works at most `budget` open pieces, and says how many it did and how many stay open. Refuses 12, 6, 2, 3, 4 and 5, in
+// this order.
 pub fn run(
     l: Layer,
     w: &[u8],
@@ -56,7 +59,8 @@ pub fn run(
     slots: &mut [f32],
     marks: &mut [u8],
 ) -> Progress
-    ensures { λ r. ⌜ (progressSays r, (now (slots .exit), now (marks .exit))) ≡ runSays l (now (w .entry)) (now (x .entry)) budget (now (slots .entry)) (now (marks .entry)) ⌝ }
+    ensures { λ r. ⌜ (progressSays r, (now (slots .exit), now (marks .exit)))
+        ≡ runSays l (now (w .entry)) (now (x .entry)) budget (now (slots .entry)) (now (marks .entry)) ⌝ }
 {
     let no = work_no(l, w.len(), x.len(), slots.len(), marks.len());
     if no != 0 {

@@ -25,6 +25,8 @@ abbrev pub marked : Layer → (row c : ℕ) → List ℕ → List ℕ
 marked l row c marks = set marks (place l row c) 1
 
 -- `piece`
-unfoldable pub pieceSays : Layer → List ℕ → List Float → (row c : ℕ) → List Float → List ℕ → Said × (List Float × List ℕ)
+unfoldable pub pieceSays : Layer → List ℕ → List Float → (row c : ℕ) → List Float → List ℕ → Said
+    × (List Float × List ℕ)
 pieceSays l w x row c slots marks =
-    carriedOut (pieceNo l (length w) (length x) (length slots) marks row c) (worked l w x row c slots, marked l row c marks) (slots, marks)
+    carriedOut (pieceNo l (length w) (length x) (length slots) marks row c)
+    (worked l w x row c slots, marked l row c marks) (slots, marks)

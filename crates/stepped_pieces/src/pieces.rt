@@ -37,7 +37,8 @@ pub fn work_one(
     slots: &mut [f32],
     marks: &mut [u8],
 )
-    requires { ⌜ LayerReady l (length (now w)) (length (now x)) × PieceRoom l (length (now slots)) (length (now marks)) × InLayer l row chunk ⌝ }
+    requires { ⌜ LayerReady l (length (now w)) (length (now x)) × PieceRoom l (length (now slots)) (length (now marks))
+        × InLayer l row chunk ⌝ }
     ensures { λ _. ⌜ now (slots .exit) ≡ worked l (now (w .entry)) (now (x .entry)) row chunk (now (slots .entry)) ⌝ }
     ensures { λ _. ⌜ now (marks .exit) ≡ marked l row chunk (now (marks .entry)) ⌝ }
 {
@@ -56,7 +57,8 @@ pub fn piece(
     slots: &mut [f32],
     marks: &mut [u8],
 ) -> Outcome
-    ensures { λ r. ⌜ (outcomeSays r, (now (slots .exit), now (marks .exit))) ≡ pieceSays l (now (w .entry)) (now (x .entry)) row chunk (now (slots .entry)) (now (marks .entry)) ⌝ }
+    ensures { λ r. ⌜ (outcomeSays r, (now (slots .exit), now (marks .exit)))
+        ≡ pieceSays l (now (w .entry)) (now (x .entry)) row chunk (now (slots .entry)) (now (marks .entry)) ⌝ }
 {
     let no = piece_no(l, w.len(), x.len(), slots.len(), marks, row, chunk);
     if no != 0 {

@@ -1,4 +1,5 @@
--- A layer has a format, in_feat and out_feat, one reading row, a slot and a mark per (row, chunk), row-major. Definitions only.
+-- A layer has a format, in_feat and out_feat, one reading row, a slot and a mark per (row, chunk), row-major.
+-- Definitions only.
 use Prim.Native.Nat.{ℕ, _+_, _*_}
 use mathlib.Core.Bool.{cond}
 use mathlib.Core.List.{List, [], _∷_}

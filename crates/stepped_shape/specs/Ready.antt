@@ -1,4 +1,5 @@
--- What a piece that is worked relies on, once nothing was refused: what the functions behind the calls require. A buffer goes in by its length.
+-- What a piece that is worked relies on, once nothing was refused: what the functions behind the calls require. A
+-- buffer goes in by its length.
 use Prim.Native.Nat.{ℕ, _≤_, _<_}
 use mathlib.Core.Path.{_≡_}
 use Rattle.refusals.specs.Refusals.{none}

@@ -1,4 +1,5 @@
--- The four calls check: format 12, then 6, then in_feat a multiple of 256 (2), then the buffers they use, then 8, 9, 10. A buffer goes in by its length; 0 is no refusal. Definitions only.
+-- The four calls check: format 12, then 6, then in_feat a multiple of 256 (2), then the buffers they use, then 8, 9,
+-- 10. A buffer goes in by its length; 0 is no refusal. Definitions only.
 use Prim.Native.Nat.{ℕ, _%_}
 use mathlib.Core.Bool.{not}
 use mathlib.Core.List.{List}

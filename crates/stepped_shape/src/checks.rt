@@ -102,7 +102,8 @@ pub fn piece_no(
     0
 }
 
-// How many of these marks are open, at most those of a whole layer: 16 chunks of 65,536 rows. The count is of 32 bits, of which a vector holds twice as many as of 64.
+// How many of these marks are open, at most those of a whole layer: 16 chunks of 65,536 rows. The count is of 32 bits,
+// of which a vector holds twice as many as of 64.
 pub fn count_open(marks: &[u8]) -> usize
     requires { ⌜ length (now marks) ≤ 1048576 ⌝ }
     ensures { λ r. ⌜ r ≡ openCount (now (marks .entry)) ⌝ }

@@ -1,4 +1,5 @@
-// The shape of a stepped layer: its pieces, where their slots, marks and weights lie, and what each of the four calls asks for, in document 01's order.
+// The shape of a stepped layer: its pieces, where their slots, marks and weights lie, and what each of the four calls
+// asks for, in document 01's order.
 mod checks;
 mod shape;
 

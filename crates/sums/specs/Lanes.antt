@@ -1,4 +1,5 @@
--- The eight lanes, and the sum of a chunk. The terms of a sum are given by their place: p i is term i of the chunk. Definitions only.
+-- The eight lanes, and the sum of a chunk. The terms of a sum are given by their place: p i is term i of the chunk.
+-- Definitions only.
 use mathlib.Core.List.{List}
 use Prim.Native.Nat.{ℕ, zero, suc, _%_}
 use lib.ListN.{getD, set, replicate}

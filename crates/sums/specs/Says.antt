@@ -18,7 +18,8 @@ chunkSays x w =
     (cond (ltb (length w) (length x)) (refused 3)
     (value (chunkSum (products x w) (length x))))
 
--- `canonical_dot_pub`: over a size; n = 0 answers +0.0; fewer weights than needed; fewer readings; and otherwise the row's sum
+-- `canonical_dot_pub`: over a size; n = 0 answers +0.0; fewer weights than needed; fewer readings; and otherwise the
+-- row's sum
 unfoldable pub dotSays : List Float → List Float → ℕ → Said
 dotSays x w n =
     cond (ltb mostIn n) (refused 6)

@@ -1,4 +1,5 @@
--- The pairwise tree: neighbours are added, an odd last one moves up, until one is left; an empty tree is +0.0. Definitions only.
+-- The pairwise tree: neighbours are added, an odd last one moves up, until one is left; an empty tree is +0.0.
+-- Definitions only.
 use mathlib.Core.List.{List, [], _∷_, _++_}
 use Prim.Native.Nat.{ℕ, zero, suc, _+_, _/_}
 use lib.ListN.{length, getD, take, drop}
@@ -11,7 +12,8 @@ pairUp [] = []
 pairUp (a ∷ []) = a ∷ []
 pairUp (a ∷ b ∷ r) = add binary32 a b ∷ pairUp r
 
--- what k rounds leave at the front, +0.0 where there is nothing; a round over one place keeps it, so more rounds than are needed change nothing
+-- what k rounds leave at the front, +0.0 where there is nothing; a round over one place keeps it, so more rounds than
+-- are needed change nothing
 unfoldable pub met : ℕ → List Float → Float
 met zero l = getD l 0 nought
 met (suc k) l = met k (pairUp l)
@@ -20,7 +22,8 @@ met (suc k) l = met k (pairUp l)
 unfoldable pub tree : List Float → Float
 tree l = met (length l) l
 
--- in place, k rounds, the first over the m places at the front: each round fills the front half, (m + 1) / 2 places, and leaves the places behind
+-- in place, k rounds, the first over the m places at the front: each round fills the front half, (m + 1) / 2 places,
+-- and leaves the places behind
 unfoldable pub settled : ℕ → ℕ → List Float → List Float
 settled zero m l = l
 settled (suc k) m l = settled k ((m + 1) / 2) (pairUp (take m l) ++ drop ((m + 1) / 2) l)

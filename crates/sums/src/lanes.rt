@@ -1,4 +1,5 @@
-// The eight lanes: term i of a chunk is added to lane i mod 8, and the lanes meet in the tree. They go by value, eight terms at a time, so that they stay in registers.
+// The eight lanes: term i of a chunk is added to lane i mod 8, and the lanes meet in the tree. They go by value, eight
+// terms at a time, so that they stay in registers.
 ghost use mathlib.Core.Path.{_≡_};
 ghost use Prim.Native.Nat.{_≤_};
 ghost use lib.ListN.{length};
@@ -8,7 +9,8 @@ ghost use Rattle.sums.specs.Says.{chunkSays};
 use crate::tree::tree8;
 use refusals::Answer;
 
-// Eight products at most, one for each lane. Where it is handed eight it is inlined as a loop of that length, which two vectors hold.
+// Eight products at most, one for each lane. Where it is handed eight it is inlined as a loop of that length, which two
+// vectors hold.
 fn eight_products(l: [f32; 8], x: &[f32], w: &[f32]) -> [f32; 8]
     requires { ⌜ (length (now x) ≤ 8) × (length (now x) ≤ length (now w)) ⌝ }
     ensures { λ r. ⌜ r ≡ lanesFrom l (products (now (x .entry)) (now (w .entry))) (length (now (x .entry))) ⌝ }

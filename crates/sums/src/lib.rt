@@ -1,4 +1,5 @@
-// Fixed-order sums: the pairwise tree, the eight lanes of a chunk, and the chunks of a row. Each adds in one order, so that every result has one set of bits.
+// Fixed-order sums: the pairwise tree, the eight lanes of a chunk, and the chunks of a row. Each adds in one order, so
+// that every result has one set of bits.
 mod chunks;
 mod dot;
 mod lanes;

@@ -9,7 +9,8 @@ ghost use Rattle.sums.specs.Tree.{pairUp, tree, combined};
 fn round(part: &mut [f32], len: usize) -> usize
     requires { ⌜ len ≤ length (now part) ⌝ }
     ensures { λ r. ⌜ r ≡ (len + 1) / 2 ⌝ }
-    ensures { λ _. ⌜ now (part .exit) ≡ pairUp (take len (now (part .entry))) ++ drop ((len + 1) / 2) (now (part .entry)) ⌝ }
+    ensures { λ _. ⌜ now (part .exit)
+        ≡ pairUp (take len (now (part .entry))) ++ drop ((len + 1) / 2) (now (part .entry)) ⌝ }
 {
     let pairs = len / 2;
     let mut t: usize = 0;
@@ -24,7 +25,8 @@ fn round(part: &mut [f32], len: usize) -> usize
     pairs
 }
 
-// The tree over a slice of any length, worked in the slice: each round fills the front half and leaves the places behind. An empty tree is +0.0.
+// The tree over a slice of any length, worked in the slice: each round fills the front half and leaves the places
+// behind. An empty tree is +0.0.
 pub fn canonical_combine(part: &mut [f32]) -> f32
     ensures { λ r. ⌜ (r, now (part .exit)) ≡ combined (now (part .entry)) ⌝ }
 {
