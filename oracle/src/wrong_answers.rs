@@ -1,6 +1,6 @@
 //! Stored answers that are made wrong, so that a judge of the program `replay` that says of
 //! everything that it is the same is seen.
-use crate::sample::Records;
+use crate::sample::{Records, STOOD};
 
 /// Calls that are judged in one file, and wrong answers: what that file's judges look at, one part
 /// after the other.
@@ -9,11 +9,13 @@ pub struct Family {
     pub answers: &'static [WrongAnswer],
 }
 
-/// A record of a call, and the part of its payload that is changed.
+/// A record of a call, the part of its payload that is changed, and a part, if any, of floats that
+/// are then as they stood before the call.
 pub struct WrongAnswer {
     pub call: &'static str,
     record: usize,
     part: usize,
+    untouched: Option<usize>,
 }
 
 impl WrongAnswer {
@@ -24,12 +26,36 @@ impl WrongAnswer {
         let part = &mut parts[self.part];
         let at = part.len() - 2;
         part[at] ^= 0x80;
+        if let Some(untouched) = self.untouched {
+            let floats = parts[untouched].len() / 4;
+            parts[untouched] = STOOD.to_le_bytes().repeat(floats);
+        }
         parts.concat()
     }
 }
 
 const fn wrong(call: &'static str, record: usize, part: usize) -> WrongAnswer {
-    WrongAnswer { call, record, part }
+    WrongAnswer {
+        call,
+        record,
+        part,
+        untouched: None,
+    }
+}
+
+/// The answer to calls of which one is refused, as if that were no matter.
+const fn refused(
+    call: &'static str,
+    record: usize,
+    part: usize,
+    untouched: usize,
+) -> WrongAnswer {
+    WrongAnswer {
+        call,
+        record,
+        part,
+        untouched: Some(untouched),
+    }
 }
 
 pub static FAMILIES: [Family; 8] = [
@@ -91,9 +117,13 @@ pub static FAMILIES: [Family; 8] = [
             wrong("linear_q4_0_cpu", 5, 11),
         ],
     },
-    // A piece outside the layer, and a row's dot.
+    // A piece outside the layer, and the same with the outputs that it leaves; a row's dot.
     Family {
         name: "stepped",
-        answers: &[wrong("stepped", 2, 7), wrong("stepped", 2, 8)],
+        answers: &[
+            wrong("stepped", 2, 7),
+            refused("stepped", 2, 7, 8),
+            wrong("stepped", 2, 8),
+        ],
     },
 ];

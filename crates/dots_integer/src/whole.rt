@@ -1,8 +1,7 @@
 // The whole-number sums of a block dot: scale times quant times activation quant over the places below n, and the
-// minimums times the sums.
-// Both formats go run by run: a run has one scale, so its quants' products are summed first. i32 holds every sum,
-// whatever the bytes are:
-// a run is at most 32 x 255 x 128 = 1,044,480 in size, and 16 runs, each times a signed byte, stay below 2^31.
+// minimums times the sums. Both formats go run by run: a run has one scale, so its quants' products are summed first.
+// i32 holds every sum, whatever the bytes are: a run is at most 32 x 255 x 128 = 1,044,480 in size, and 16 runs, each
+// times a signed byte, stay below 2^31.
 use layouts::FormatK;
 ghost use mathlib.Core.Path.{_≡_};
 ghost use Prim.Native.Nat.{ℕ, _+_, _*_, _≤_, _<_};

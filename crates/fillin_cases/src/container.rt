@@ -5,8 +5,7 @@ ghost use Prim.Native.Nat.{_+_, _≤_, _<_, _^_};
 ghost use lib.ListN.{length};
 
 // How a file is answered: at each of its cuts, from no bytes to all of them; with at most 1 byte to a read, then 2, and
-// so on; a thousand times, one behind the
-// other; and otherwise as it is.
+// so on; a thousand times, one behind the other; and otherwise as it is.
 const AT_EACH_CUT: u8 = 1;
 
 const IN_PIECES: u8 = 2;

@@ -47,9 +47,8 @@ abbrev pub exponent32 : ℕ → ℕ
 exponent32 b = b / 8388608 % 256
 
 -- The exponent's field and the digits of the binary16 that quant.rs makes of a binary32 with the exponent's field x and
--- the ten leading digits t.
--- It flushes below 2 ^ -14, a field of at most 112, to zero, and sends overflow and NaN, a field of 143 or more, to
--- infinity.
+-- the ten leading digits t. It flushes below 2 ^ -14, a field of at most 112, to zero, and sends overflow and NaN, a
+-- field of 143 or more, to infinity.
 abbrev pub magnitude16 : ℕ → ℕ → ℕ
 magnitude16 x t = cond (leb x 112) 0 (cond (leb 143 x) 31744 ((x - 112) * 1024 + t))
 

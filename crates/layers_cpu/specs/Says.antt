@@ -23,9 +23,8 @@ abbrev pub rowWeight : Format → List ℕ → ℕ → ℕ → ℕ → Float
 rowWeight f w n o i = weightAt f w (o * n + i)
 
 -- Why a `_cpu` layer says no, given so many readings, weight bytes, output and scratch places. Any other length than
--- what is needed is refused, but for scratch, which may be longer.
--- The K formats look at the readings and the output first, and need no whole blocks to a row: two rows of 128 share
--- one.
+-- what is needed is refused, but for scratch, which may be longer. The K formats look at the readings and the output
+-- first, and need no whole blocks to a row: two rows of 128 share one.
 unfoldable pub cpuNo : Format → Shape → ℕ → ℕ → ℕ → ℕ → ℕ
 cpuNo (OfK f) s readings weights places scratch =
     given 6 (oversize s)

@@ -17,8 +17,7 @@ pub fn less(n: u8, k: u8) -> i8
 }
 
 // Q4_0's whole numbers: byte k's low and high nibbles are neighbours. The loop counts to the block's length and not to
-// a number, since the compiler would
-// write out sixteen turns and make no vectors of them.
+// a number, since the compiler would write out sixteen turns and make no vectors of them.
 fn quants_q4_0(block: &[u8]) -> [i8; 32]
     requires { ⌜ length (now block) ≡ 18 ⌝ }
     ensures { λ r. ⌜ r ≡ table (quant32 Format32.Q40 (now (block .entry))) 32 ⌝ }

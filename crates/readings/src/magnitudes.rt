@@ -26,8 +26,7 @@ fn largest_in_order(x: &[f32]) -> f32
 }
 
 // The largest magnitude of the readings: +0.0 where there is none, and a NaN is passed over. Eight lanes take every
-// eighth reading
-// each, as long as there are eight more, since the largest is the same in any order.
+// eighth reading each, as long as there are eight more, since the largest is the same in any order.
 pub fn largest_magnitude(x: &[f32]) -> f32
     ensures { λ r. ⌜ r ≡ largest (now (x .entry)) (length (now (x .entry))) ⌝ }
 {
@@ -52,8 +51,7 @@ fn reaches(v: f32, most: f32) -> bool
 }
 
 // The first value of largest magnitude: +0.0 where every reading is a zero or a NaN. The largest magnitude is found in
-// lanes, and then the
-// first reading that has it: one after the other, the two would wait for each comparison.
+// lanes, and then the first reading that has it: one after the other, the two would wait for each comparison.
 pub fn largest_value(x: &[f32]) -> f32
     ensures { λ r. ⌜ r ≡ largestValue (now (x .entry)) (length (now (x .entry))) ⌝ }
 {

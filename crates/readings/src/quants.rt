@@ -25,8 +25,7 @@ fn down_to(r: f32, c: f32) -> f32
 }
 
 // The whole part of c, which is +0.0 or above it, and below 256. From 2^23 on an f32 has no fraction, so adding 2^23
-// rounds c
-// to a whole number next to it, and taking 2^23 off again is exact.
+// rounds c to a whole number next to it, and taking 2^23 off again is exact.
 fn small_whole(c: f32) -> i32
     requires { ⌜ ((c ≡ nought) ⊎ (lt nought c ≡ true)) × (lt c (ofBits binary32 0x4380_0000) ≡ true) ⌝ }
     ensures { λ r. ⌜ r ≡ truncated c ⌝ }

@@ -1,6 +1,5 @@
 // The block decoders. A payload is how many places the output has and how many packed bytes there are, the bytes, the
-// number that says no, 0 where
-// there is none, and what then stands in the output.
+// number that says no, 0 where there is none, and what then stands in the output.
 use layouts::Format;
 use layouts::Format32;
 use layouts::FormatK;

@@ -1,6 +1,5 @@
 // The block quantizers. A payload is how many places the output has and how many readings there are, the readings, the
-// number that says no, 0 where
-// there is none, and what then stands in the output.
+// number that says no, 0 where there is none, and what then stands in the output.
 use quantizers::Target;
 use refusals::Outcome;
 use stored_answers::Finding;

@@ -39,8 +39,7 @@ fn answer_on(
 }
 
 // A payload is n, how many readings and weights there are, these, the number that says no, 0 where there is none, and
-// the value.
-// A call that takes no n or no weights has 0 there.
+// the value. A call that takes no n or no weights has 0 there.
 fn judge_rows(call: OfRows, payload: &[u8]) -> Finding {
     let n = u32_at(payload, 0) as usize;
     let x_len = u32_at(payload, 4) as usize;

@@ -1,18 +1,14 @@
 // The Rust's stored answers, replayed.
 //
 // Standard input is a sample of them, the file `stdin` beside src/. The oracle made it by asking the Rust itself, and
-// with it `stdout`, the text that is
-// to be printed: `oracle/run sample` makes both again. A record is a tag byte, the payload's length as a little-endian
-// u32, and the payload. The tag says
-// the call; the payload is the call's input, then the answer, which is the Rust's, or document 01's refusal where the
-// Rust has none. Behind the records of
-// a call stands one with the tag 255, whose payload is the call's name. Behind those of all calls stand answers that
-// are
-// made wrong, some of each family of calls, so that a judge that finds everything the same is seen.
+// with it `stdout`, the text that is to be printed: `oracle/run sample` makes both again. A record is a tag byte, the
+// payload's length as a little-endian u32, and the payload. The tag says the call; the payload is the call's input,
+// then the answer, which is the Rust's, or document 01's refusal where the Rust has none. Behind the records of a call
+// stands one with the tag 255, whose payload is the call's name. Behind those of all calls stand answers that are made
+// wrong, some of each family of calls, so that a judge that finds everything the same is seen.
 //
 // For each call a line says how many answers were replayed, and how many of ours differ: neither the same bits nor both
-// NaN. Where the sample
-// cannot be read on, a last line says why, and at which byte.
+// NaN. Where the sample cannot be read on, a last line says why, and at which byte.
 mod activation_blocks;
 mod binary16;
 mod block_decoders;
@@ -27,8 +23,7 @@ mod row_dots;
 use stored_answers::Finding;
 
 // How far the replay is: whether it goes on, the byte at which the next record begins, and of the call whose records
-// are read the answers so far and how
-// many of them differ.
+// are read the answers so far and how many of them differ.
 struct Replay {
     on: bool,
     at: u64,

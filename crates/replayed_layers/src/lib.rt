@@ -1,7 +1,6 @@
 // The stored answers of the layers, judged. A payload is batch, in_feat and out_feat, how many readings, packed bytes,
-// places of output and of scratch there
-// are, the readings, the bytes, the number that says no, 0 where there is none, and what then stands in the output and
-// in scratch.
+// places of output and of scratch there are, the readings, the bytes, the number that says no, 0 where there is none,
+// and what then stands in the output and in scratch.
 mod stepped_layer;
 
 use layers_shape::Shape;

@@ -1,8 +1,7 @@
 // The stepped layer, by histories of calls. A payload is the format, in four bytes as the counts behind it, in_feat,
-// out_feat, how many packed bytes and pieces there are, the readings, the
-// bytes, the row and the chunk of each piece in the order of the calls, and the dot of each row, which is the Rust's in
-// one go. What the pieces leave open
-// is done by runs of one piece, and then every row is closed.
+// out_feat, how many packed bytes and pieces there are, the readings, the bytes, the row and the chunk of each piece in
+// the order of the calls, and the dot of each row, which is the Rust's in one go. What the pieces leave open is done by
+// runs of one piece, and then every row is closed.
 use stepped::Progress;
 use stepped_shape::Layer;
 use stored_answers::Finding;
