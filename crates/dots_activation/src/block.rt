@@ -7,7 +7,8 @@ ghost use lib.IntN.{natAbs};
 ghost use lib.ListN.{length};
 ghost use Rattle.memory.specs.Lists.{table};
 ghost use Rattle.dots_activation.specs.Whole.{elem, Within};
-ghost use Rattle.dots_activation.specs.Blocks.{quantAt, sumOf32, sumsOf, rightAt, sumsRight, SmallSums, blockWith, blockOf, quantized};
+ghost use Rattle.dots_activation.specs.Blocks.{quantAt, sumOf32, sumsOf, rightAt, sumsRight, SmallSums};
+ghost use Rattle.dots_activation.specs.Blocks.{blockWith, blockOf, quantized};
 
 // One float scale, 256 signed quants and eight sums of 32. It is made by `block_with` and read by the block dots.
 pub struct Q8Block {
