@@ -11,7 +11,7 @@ use Rattle.fillin_text.specs.Text.{laid}
 use Rattle.fillin_text.proofs.Laid.{laid-front}
 use Rattle.fillin_answer.specs.declared.state.State.{State}
 use Rattle.fillin_answer.specs.declared.state.Reply.{Reply}
-use Rattle.fillin_answer.specs.Kept.{Held, Ready}
+use Rattle.fillin_answer.specs.Kept.{Sound, Ready}
 use Rattle.fillin_answer.specs.Answers.{Response, respond, answerTo, Replied}
 use Rattle.fillin_answer.proofs.Holding.{kept-within, carried}
 
@@ -48,7 +48,7 @@ module _ (st : State) (s weights line : List ℕ) (ready : Ready st (length s) (
   Concluded a r after left =
       Replied a r line after
       × ((left ≡ laid weights 0 (a .weights))
-      × (Held (r .state) × (r .state .offset ≤ st .offset + length s) × (r .state .answered + r .state .refused ≤ st .answered + st .refused + 1) × (r .length ≤ length after)))
+      × (Sound (r .state) × (r .state .offset ≤ st .offset + length s) × (r .state .answered + r .state .refused ≤ st .answered + st .refused + 1) × (r .length ≤ length after)))
 
   pub concluded : (f : Found) (r : Reply) (after left : List ℕ) → foundAt s 0 (st .layer .«in_feat») ≡ f
       → Replied (respond (later (st .offset) f) (payloadAt s 0) st held) r line after
@@ -64,7 +64,7 @@ module _ (st : State) (s weights line : List ℕ) (ready : Ready st (length s) (
         (
           l ∙ ap (λ (a : Response). laid weights 0 (a .weights)) same,
           (
-            subst Held (sym state) (k .held),
+            subst Sound (sym state) (k .held),
             omega (arith, ap (λ (z : State). z .offset) state, k .offset-in),
             omega (arith, ap (λ (z : State). z .answered) state, ap (λ (z : State). z .refused) state, k .count-in),
             fits,

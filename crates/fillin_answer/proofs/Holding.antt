@@ -17,22 +17,22 @@ use Rattle.records.specs.Kinds.{weightBytes}
 use Rattle.records.specs.Found.{Found, ended, layer, window, warmUp, refused, foundAt, later}
 use Rattle.records.proofs.Read.{few-weights, layer-read, window-read, warm-up-read}
 use Rattle.fillin_answer.specs.declared.state.State.{State}
-use Rattle.fillin_answer.specs.Kept.{Held}
+use Rattle.fillin_answer.specs.Kept.{Sound}
 use Rattle.fillin_answer.specs.Answers.{respond, answerTo}
 
 -- a layer of at most 2,048 readings has one chunk a row, and at most 16 pieces
-few-pieces : (st : State) → Held st → pieces (st .layer) ≤ 16
+few-pieces : (st : State) → Sound st → pieces (st .layer) ≤ 16
 unfolding pieces chunks
 few-pieces st h =
     let one : chunks (st .layer) ≤ 1 = omega (arith, h .inputs) in
     le-trans (mul-le-mul-left (st .layer .«out_feat») one) (rw mul-one (h .outputs))
 
 -- its weights have at most 26,880 bytes
-pub kept-within : (st : State) → Held st → st .«weight_bytes» ≤ 26880
+pub kept-within : (st : State) → Sound st → st .«weight_bytes» ≤ 26880
 unfolding weightNeed layerRowBytes weightBytes
 kept-within st h = rw (h .weighed) (few-weights (st .layer .format) (st .layer .«in_feat») (st .layer .«out_feat») (h .inputs) (h .outputs))
 
-pub workable : (st : State) (weights : ℕ) → Held st → weights ≡ st .«weight_bytes» → workNo (st .layer) weights (st .layer .«in_feat») 16 16 ≡ none
+pub workable : (st : State) (weights : ℕ) → Sound st → weights ≡ st .«weight_bytes» → workNo (st .layer) weights (st .layer .«in_feat») 16 16 ≡ none
 unfolding workNo roomNo
 workable st weights h e =
     let few = few-pieces st h in
@@ -47,7 +47,7 @@ workable st weights h e =
 
 -- a layer record's layer is held
 layer-held : (s : List ℕ) (i latest format inFeat outFeat next : ℕ) (offset answered refused : ℕ) → foundAt s i latest ≡ layer format inFeat outFeat next
-    → Held (record { layer = layerOf format inFeat outFeat; «weight_bytes» = length (drop 9 (payloadAt s i)); offset = offset; answered = answered; refused = refused })
+    → Sound (record { layer = layerOf format inFeat outFeat; «weight_bytes» = length (drop 9 (payloadAt s i)); offset = offset; answered = answered; refused = refused })
 unfolding shapeNo weightNeed layerRowBytes weightBytes
 layer-held s i latest format inFeat outFeat next offset yes-count no-count e =
     let r = layer-read s i latest format inFeat outFeat next e in
@@ -64,16 +64,16 @@ layer-held s i latest format inFeat outFeat next offset yes-count no-count e =
 
 -- from the state before a record of so many bytes to the state after
 pub record Carried (bytes : ℕ) (before after : State) : Type 0 where
-  pub held : Held after
+  pub held : Sound after
   pub offset-in : after .offset ≤ before .offset + bytes
   pub count-in : after .answered + after .refused ≤ before .answered + before .refused + 1
 
-module _ (st : State) (w s : List ℕ) (h : Held st) where
+module _ (st : State) (w s : List ℕ) (h : Sound st) where
   abbrev After : Found → State
   After f = respond (later (st .offset) f) (payloadAt s 0) st w .state
 
   -- a window changes the counts and the offset alone
-  same-layer : (offset answered refused : ℕ) → Held (record { layer = st .layer; «weight_bytes» = st .«weight_bytes»; offset = offset; answered = answered; refused = refused })
+  same-layer : (offset answered refused : ℕ) → Sound (record { layer = st .layer; «weight_bytes» = st .«weight_bytes»; offset = offset; answered = answered; refused = refused })
   same-layer offset yes-count no-count = record { shape = h .shape; inputs = h .inputs; outputs = h .outputs; weighed = h .weighed }
 
   carried-found : (f : Found) → foundAt s 0 (st .layer .«in_feat») ≡ f → Carried (length s) st (After f)

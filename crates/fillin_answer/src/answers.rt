@@ -10,13 +10,14 @@ ghost use Prim.Native.Nat.{_+_, _*_, _^_, _≤_, _<_};
 ghost use mathlib.Core.List.{[]};
 ghost use lib.ListN.{length, take, drop};
 ghost use Rattle.fillin_text.specs.Text.{laid};
+ghost use Rattle.fillin_lines.specs.Lines.{mostLine};
 ghost use Rattle.records.specs.Found.{ended, layer, window, warmUp, refused};
-ghost use Rattle.fillin_answer.specs.Kept.{Held, Ready};
+ghost use Rattle.fillin_answer.specs.Kept.{Sound, Ready};
 ghost use Rattle.fillin_answer.specs.Answers.{Replied, respond, answerTo};
 
 // Nothing is left: `end`.
 fn finish(st: State, line: &mut [u8]) -> Reply
-    requires { ⌜ 172 ≤ length (now line) ⌝ }
+    requires { ⌜ mostLine ≤ length (now line) ⌝ }
     ensures { λ r. ⌜ Replied (respond ended [] st []) r (now (line .entry)) (now (line .exit)) ⌝ }
 {
     let length = fillin_lines::end_line(line, st.answered, st.refused);
@@ -29,7 +30,7 @@ fn finish(st: State, line: &mut [u8]) -> Reply
 
 // A record is refused: `stop`.
 fn stop(st: State, no: u32, line: &mut [u8]) -> Reply
-    requires { ⌜ 172 ≤ length (now line) ⌝ }
+    requires { ⌜ mostLine ≤ length (now line) ⌝ }
     ensures { λ r. ⌜ Replied (respond (refused no) [] st []) r (now (line .entry)) (now (line .exit)) ⌝ }
 {
     let length = fillin_lines::stop_line(line, no, st.offset);
@@ -57,7 +58,7 @@ fn take_layer(
     weights: &mut [u8],
     line: &mut [u8],
 ) -> Reply
-    requires { ⌜ (172 ≤ length (now line)) × (length (drop 9 (now payload)) ≤ length (now weights))
+    requires { ⌜ (mostLine ≤ length (now line)) × (length (drop 9 (now payload)) ≤ length (now weights))
         × (st .offset + size < 2 ^ 64) ⌝ }
     ensures { λ r. ⌜ Replied
         (respond (layer (l .format) (l .«in_feat») (l .«out_feat») (st .offset + size)) (now (payload .entry)) st []) r
@@ -82,7 +83,7 @@ fn take_layer(
 
 // A window with warm-up readings: `refused 13`.
 fn refuse_window(st: State, size: usize, line: &mut [u8]) -> Reply
-    requires { ⌜ (172 ≤ length (now line)) × (st .offset + size < 2 ^ 64)
+    requires { ⌜ (mostLine ≤ length (now line)) × (st .offset + size < 2 ^ 64)
         × (st .answered + st .refused + 1 < 2 ^ 64) ⌝ }
     ensures { λ r. ⌜ Replied (respond (warmUp (st .offset + size)) [] st []) r (now (line .entry))
         (now (line .exit)) ⌝ }
@@ -105,7 +106,7 @@ fn refuse_window(st: State, size: usize, line: &mut [u8]) -> Reply
 
 // A window for the latest layer: its outputs.
 fn answer_window(st: State, size: usize, payload: &[u8], weights: &[u8], line: &mut [u8]) -> Reply
-    requires { ⌜ Held st × (172 ≤ length (now line)) × (length (now weights) ≡ st .«weight_bytes») ⌝ }
+    requires { ⌜ Sound st × (mostLine ≤ length (now line)) × (length (now weights) ≡ st .«weight_bytes») ⌝ }
     requires { ⌜ (length (now payload) ≡ st .layer .«in_feat» * 4) × (st .offset + size < 2 ^ 64)
         × (st .answered + st .refused + 1 < 2 ^ 64) ⌝ }
     ensures { λ r. ⌜ Replied (respond (window (st .offset + size)) (now (payload .entry)) st (now (weights .entry))) r
@@ -113,7 +114,7 @@ fn answer_window(st: State, size: usize, payload: &[u8], weights: &[u8], line: &
 {
     let l = st.layer;
     let rows = l.out_feat;
-    let mut y = [0.0f32; records::MOST_OUT];
+    let mut y = [0.0f32; records::MOST_LAYER_OUT];
     let filled = window_outputs(l, weights, payload, &mut y);
     if let Outcome::Refused(no) = filled {
         return stop(st, no, line);
@@ -142,7 +143,7 @@ pub fn answer(st: State, record: &[u8], weights: &mut [u8], line: &mut [u8]) -> 
     ensures { λ _. ⌜ now (weights .exit)
         ≡ laid (now (weights .entry)) 0
         (answerTo st (take (st .«weight_bytes») (now (weights .entry))) (now («record» .entry)) .weights) ⌝ }
-    ensures { λ r. ⌜ Held (r .state) × (r .state .offset ≤ st .offset + length (now («record» .entry)))
+    ensures { λ r. ⌜ Sound (r .state) × (r .state .offset ≤ st .offset + length (now («record» .entry)))
         × (r .state .answered + r .state .refused ≤ st .answered + st .refused + 1)
         × (r .length ≤ length (now (line .exit))) ⌝ }
 {

@@ -4,6 +4,10 @@ use mathlib.Core.List.{List, [], _∷_, _++_}
 use lib.Ieee.{Float, binary32, toBits}
 use Rattle.fillin_text.specs.Text.{field, hexField}
 
+-- the longest line, a window's with sixteen outputs, has at most 172 bytes: 7, 20 of its number, 16 * 9, and 1
+abbrev pub mostLine : ℕ
+mostLine = 172
+
 -- what ends each line
 abbrev pub newline : List ℕ
 newline = 10 ∷ []

@@ -7,16 +7,17 @@ ghost use Prim.Native.Nat.{_≤_};
 ghost use mathlib.Core.List.{_++_};
 ghost use lib.ListN.{length};
 ghost use Rattle.fillin_text.specs.Text.{laid, field};
-ghost use Rattle.fillin_lines.specs.Lines.{newline, layerLine, windowLine, refusedLine, stopLine, endLine};
+ghost use Rattle.fillin_lines.specs.Lines.{mostLine, newline};
+ghost use Rattle.fillin_lines.specs.Lines.{layerLine, windowLine, refusedLine, stopLine, endLine};
 
 // The longest line: a window with sixteen outputs has 7 + 20 + 16 * 9 + 1 bytes at most.
 pub const MOST_LINE: usize = 172;
 
 // `layer`, format, in_feat, out_feat.
 pub fn layer_line(line: &mut [u8], format: u8, in_feat: usize, out_feat: usize) -> usize
-    requires { ⌜ 172 ≤ length (now line) ⌝ }
+    requires { ⌜ mostLine ≤ length (now line) ⌝ }
     ensures { λ _. ⌜ now (line .exit) ≡ laid (now (line .entry)) 0 (layerLine format «in_feat» «out_feat») ⌝ }
-    ensures { λ r. ⌜ (r ≡ length (layerLine format «in_feat» «out_feat»)) × (r ≤ 172) ⌝ }
+    ensures { λ r. ⌜ (r ≡ length (layerLine format «in_feat» «out_feat»)) × (r ≤ mostLine) ⌝ }
 {
     let a = put(line, 0, b"layer");
     let b = put_field(line, a, format as u64);
@@ -27,9 +28,9 @@ pub fn layer_line(line: &mut [u8], format: u8, in_feat: usize, out_feat: usize) 
 
 // `window`, its number, then each output's bits.
 pub fn window_line(line: &mut [u8], number: u64, outputs: &[f32]) -> usize
-    requires { ⌜ (172 ≤ length (now line)) × (length (now outputs) ≤ 16) ⌝ }
+    requires { ⌜ (mostLine ≤ length (now line)) × (length (now outputs) ≤ 16) ⌝ }
     ensures { λ _. ⌜ now (line .exit) ≡ laid (now (line .entry)) 0 (windowLine number (now (outputs .entry))) ⌝ }
-    ensures { λ r. ⌜ (r ≡ length (windowLine number (now (outputs .entry)))) × (r ≤ 172) ⌝ }
+    ensures { λ r. ⌜ (r ≡ length (windowLine number (now (outputs .entry)))) × (r ≤ mostLine) ⌝ }
 {
     let a = put(line, 0, b"window");
     let mut at = put_field(line, a, number);
@@ -43,9 +44,9 @@ pub fn window_line(line: &mut [u8], number: u64, outputs: &[f32]) -> usize
 
 // `window`, its number, `refused 13`.
 pub fn refused_line(line: &mut [u8], number: u64) -> usize
-    requires { ⌜ 172 ≤ length (now line) ⌝ }
+    requires { ⌜ mostLine ≤ length (now line) ⌝ }
     ensures { λ _. ⌜ now (line .exit) ≡ laid (now (line .entry)) 0 (refusedLine number) ⌝ }
-    ensures { λ r. ⌜ (r ≡ length (refusedLine number)) × (r ≤ 172) ⌝ }
+    ensures { λ r. ⌜ (r ≡ length (refusedLine number)) × (r ≤ mostLine) ⌝ }
 {
     let a = put(line, 0, b"window");
     let b = put_field(line, a, number);
@@ -54,10 +55,10 @@ pub fn refused_line(line: &mut [u8], number: u64) -> usize
 
 // A word of at most six letters, two numbers and a newline.
 fn word_and_two(line: &mut [u8], word: &[u8], one: u64, two: u64) -> usize
-    requires { ⌜ (172 ≤ length (now line)) × (length (now word) ≤ 6) ⌝ }
+    requires { ⌜ (mostLine ≤ length (now line)) × (length (now word) ≤ 6) ⌝ }
     ensures { λ _. ⌜ now (line .exit)
         ≡ laid (now (line .entry)) 0 (now (word .entry) ++ (field one ++ (field two ++ newline))) ⌝ }
-    ensures { λ r. ⌜ (r ≡ length (now (word .entry) ++ (field one ++ (field two ++ newline)))) × (r ≤ 172) ⌝ }
+    ensures { λ r. ⌜ (r ≡ length (now (word .entry) ++ (field one ++ (field two ++ newline)))) × (r ≤ mostLine) ⌝ }
 {
     let a = put(line, 0, word);
     let b = put_field(line, a, one);
@@ -67,18 +68,18 @@ fn word_and_two(line: &mut [u8], word: &[u8], one: u64, two: u64) -> usize
 
 // `stop`, the number that says no, the record's byte offset.
 pub fn stop_line(line: &mut [u8], no: u32, offset: u64) -> usize
-    requires { ⌜ 172 ≤ length (now line) ⌝ }
+    requires { ⌜ mostLine ≤ length (now line) ⌝ }
     ensures { λ _. ⌜ now (line .exit) ≡ laid (now (line .entry)) 0 (stopLine no offset) ⌝ }
-    ensures { λ r. ⌜ (r ≡ length (stopLine no offset)) × (r ≤ 172) ⌝ }
+    ensures { λ r. ⌜ (r ≡ length (stopLine no offset)) × (r ≤ mostLine) ⌝ }
 {
     word_and_two(line, b"stop", no as u64, offset)
 }
 
 // `end`, windows answered, windows refused.
 pub fn end_line(line: &mut [u8], answered: u64, refused: u64) -> usize
-    requires { ⌜ 172 ≤ length (now line) ⌝ }
+    requires { ⌜ mostLine ≤ length (now line) ⌝ }
     ensures { λ _. ⌜ now (line .exit) ≡ laid (now (line .entry)) 0 (endLine answered refused) ⌝ }
-    ensures { λ r. ⌜ (r ≡ length (endLine answered refused)) × (r ≤ 172) ⌝ }
+    ensures { λ r. ⌜ (r ≡ length (endLine answered refused)) × (r ≤ mostLine) ⌝ }
 {
     word_and_two(line, b"end", answered, refused)
 }

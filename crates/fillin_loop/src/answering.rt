@@ -3,12 +3,15 @@ use crate::input::Desk;
 use crate::input::ROOM;
 use crate::input::nothing_read;
 use crate::input::read_on;
-use crate::progress::Progress;
+use crate::progress::Counter;
 use fillin_answer::State;
 use libc::STDERR_FILENO;
 use records::Next;
 ghost use Prim.Native.Nat.{_≤_, _<_};
 ghost use lib.ListN.{length};
+ghost use Rattle.records.specs.Frame.{mostRecord};
+ghost use Rattle.records.specs.Kinds.{mostWeights};
+ghost use Rattle.fillin_lines.specs.Lines.{mostLine};
 ghost use Rattle.fillin_answer.specs.Kept.{Ready};
 ghost use Rattle.fillin_loop.specs.Turns.{Kept};
 
@@ -52,7 +55,7 @@ impl Ending {
 }
 
 // Says on standard error what went wrong, if anything did.
-fn finish(progress: Progress, ending: Ending) -> Ending {
+fn finish(progress: Counter, ending: Ending) -> Ending {
     progress.end();
     match ending {
         Ending::Ended => {}
@@ -98,11 +101,11 @@ fn answer_one(desk: Desk, st: State, record: &[u8], weights: &mut [u8], line: &m
 
 // Answers records until one ends the transcript, or reading or writing fails.
 fn answer_records(desk: Desk, buf: &mut [u8], weights: &mut [u8], line: &mut [u8]) -> Ending
-    requires { ⌜ (0 < desk .most) × (32772 ≤ length (now buf)) × (26880 ≤ length (now weights))
-        × (172 ≤ length (now line)) ⌝ }
+    requires { ⌜ (0 < desk .most) × (mostRecord ≤ length (now buf)) × (mostWeights ≤ length (now weights))
+        × (mostLine ≤ length (now line)) ⌝ }
 {
     let mut st = fillin_answer::start();
-    let mut progress = Progress::begin(desk.output);
+    let mut progress = Counter::begin(desk.output);
     let mut unread = nothing_read();
     for _ in 0..MOST_TURNS {
         let from = unread.from;

@@ -5,7 +5,7 @@ use libc::STDERR_FILENO;
 const STEP: u64 = 1_000;
 
 // Whether counts are shown, and the latest that was; 0 where none was yet.
-pub(crate) struct Progress {
+pub(crate) struct Counter {
     wanted: bool,
     shown: u64,
 }
@@ -25,10 +25,10 @@ fn show(windows: u64) {
     io::write_all(STDERR_FILENO, b" windows");
 }
 
-impl Progress {
+impl Counter {
     // Before the first record, where the lines go to this descriptor.
     pub(crate) fn begin(output: i32) -> Self {
-        Progress {
+        Counter {
             wanted: is_wanted(output),
             shown: 0,
         }

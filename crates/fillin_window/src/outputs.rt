@@ -55,10 +55,10 @@ fn fill_outputs(l: Layer, w: &[u8], x: &[f32], y: &mut [f32]) -> Outcome
 }
 
 // Room for a window's readings.
-fn readings_room() -> [f32; records::MOST_IN]
+fn readings_room() -> [f32; records::MOST_LAYER_IN]
     ensures { λ r. ⌜ 2048 ≡ length r ⌝ }
 {
-    [0.0f32; records::MOST_IN]
+    [0.0f32; records::MOST_LAYER_IN]
 }
 
 // The outputs of a layer for the window with this payload.

@@ -7,6 +7,10 @@ use lib.ListN.{length}
 use Rattle.memory.specs.Lists.{part}
 use Rattle.numbers.specs.Fields.{le16, le32}
 
+-- a record has at most 32,772 bytes, its length field among them
+abbrev pub mostRecord : ℕ
+mostRecord = 32772
+
 -- the length is from 2 to 32,768
 unfoldable pub goodLength : ℕ → Bool
 goodLength n = leb 2 n && leb n 32768

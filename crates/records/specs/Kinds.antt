@@ -24,6 +24,10 @@ inFeatIn p = le32 p 1
 abbrev pub outFeatIn : List ℕ → ℕ
 outFeatIn p = le32 p 5
 
+-- a layer's weights have at most 26,880 bytes: 16 rows of 8 blocks of 210
+abbrev pub mostWeights : ℕ
+mostWeights = 26880
+
 -- from 1 to most
 unfoldable pub upTo : ℕ → ℕ → Bool
 upTo most n = leb 1 n && leb n most

@@ -2,7 +2,7 @@
 use crate::fields::u32_at;
 ghost use mathlib.Core.Path.{_≡_};
 ghost use Prim.Native.Nat.{_≤_};
-ghost use Rattle.records.specs.Frame.{goodLength, sizeOf, isWhole, payloadAt};
+ghost use Rattle.records.specs.Frame.{mostRecord, goodLength, sizeOf, isWhole, payloadAt};
 ghost use Rattle.records.specs.Pieces.{nextIn};
 
 // What a length field says at most: a kind and its payload.
@@ -23,7 +23,7 @@ fn good_length(n: usize) -> bool
 
 // How many bytes the record has that begins with these: 4, its length field, where that is missing or bad.
 pub fn size_of(s: &[u8]) -> usize
-    ensures { λ r. ⌜ (r ≡ sizeOf (now (s .entry))) × (4 ≤ r) × (r ≤ 32772) ⌝ }
+    ensures { λ r. ⌜ (r ≡ sizeOf (now (s .entry))) × (4 ≤ r) × (r ≤ mostRecord) ⌝ }
 {
     if s.len() < 4 {
         return 4;

@@ -10,10 +10,10 @@ ghost use Rattle.records.specs.Kinds.{weightBytes, sizesNo, layerRecordN
 // The bytes before a layer's weights.
 const HEAD: usize = 9;
 
-// in_feat at most.
-pub const MOST_IN: usize = 2_048;
-// out_feat at most.
-pub const MOST_OUT: usize = 16;
+// A layer record's in_feat at most.
+pub const MOST_LAYER_IN: usize = 2_048;
+// A layer record's out_feat at most.
+pub const MOST_LAYER_OUT: usize = 16;
 // The bytes of a layer's weights at most: 16 rows of 8 blocks of 210 bytes.
 pub const MOST_WEIGHTS: usize = 26_880;
 
@@ -31,13 +31,13 @@ fn sizes_no(in_feat: usize, out_feat: usize) -> u32
     if in_feat < 1 {
         return refusals::TOO_LARGE;
     }
-    if in_feat > MOST_IN {
+    if in_feat > MOST_LAYER_IN {
         return refusals::TOO_LARGE;
     }
     if out_feat < 1 {
         return refusals::TOO_LARGE;
     }
-    if out_feat > MOST_OUT {
+    if out_feat > MOST_LAYER_OUT {
         return refusals::TOO_LARGE;
     }
     if in_feat % 256 != 0 {

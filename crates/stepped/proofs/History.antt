@@ -27,7 +27,7 @@ use Rattle.stepped_shape.proofs.Shapes.{place-within, row-within, openable, pie
 use Rattle.stepped_shape.proofs.Marks.{open-append, open-set-take, none-open}
 use Rattle.stepped_pieces.specs.Pieces.{sumAt, worked, marked, pieceSays}
 use Rattle.stepped.specs.Says.{noSum, noMark, Work, work, slotsOf, marksOf, visit, visitRow, visitRows, runWork, openSays, runSays, rowMet, closeSays}
-use Rattle.stepped.specs.History.{decodedRow, inOneGo, Call, piece, run, close, State, call, calls, opened, Demand3}
+use Rattle.stepped.specs.History.{decodedRow, inOneGo, Call, piece, run, close, HistoryState, call, calls, opened, Demand3}
 use Rattle.stepped.proofs.Answers.{ran-done, ran-refused}
 use Rattle.stepped.proofs.Runs.{visit-open, visit-done, visit-over}
 use Rattle.stepped.proofs.Counts.{run-counts}
@@ -137,13 +137,13 @@ module _ (l : Layer) (w : List ℕ) (x : List Float) where
       ∙ row-of-sums l w x row
 
   -- what every call keeps
-  record Good (s : State) : Type 0 where
+  record Good (s : HistoryState) : Type 0 where
     pub holds : Held (s .slots) (s .marks)
     pub demand : Demand3 l w x s
 
   -- ---- piece
 
-  good-piece : (s : State) (row c : ℕ) → Good s → Dec (pieceNo l (length w) (length x) (length (s .slots)) (s .marks) row c ≡ 0) → Good (call l w x s (piece row c))
+  good-piece : (s : HistoryState) (row c : ℕ) → Good s → Dec (pieceNo l (length w) (length x) (length (s .slots)) (s .marks) row c ≡ 0) → Good (call l w x s (piece row c))
   unfolding call pieceSays openOf
   good-piece s row c g (yes z) =
       let p = pieceable _ _ _ _ _ _ _ z in
@@ -161,7 +161,7 @@ module _ (l : Layer) (w : List ℕ) (x : List Float) where
 
   -- ---- run
 
-  good-run : (s : State) (budget : ℕ) → Good s → Dec (workNo l (length w) (length x) (length (s .slots)) (length (s .marks)) ≡ 0) → Good (call l w x s (run budget))
+  good-run : (s : HistoryState) (budget : ℕ) → Good s → Dec (workNo l (length w) (length x) (length (s .slots)) (length (s .marks)) ≡ 0) → Good (call l w x s (run budget))
   unfolding call runSays
   good-run s budget g (yes z) =
       let r = run-counts l w x budget (s .marks) (s .slots) (g .holds .marks-fit) in
@@ -177,7 +177,7 @@ module _ (l : Layer) (w : List ℕ) (x : List Float) where
 
   -- ---- close
 
-  close-rows : (s : State) (row : ℕ) → Good s → closeNo l (length (s .slots)) (s .marks) (length (s .outputs)) row ≡ 0 → (r : ℕ) → List·Memᴰ r (row ∷ s .closed) → Dec (r ≡ row)
+  close-rows : (s : HistoryState) (row : ℕ) → Good s → closeNo l (length (s .slots)) (s .marks) (length (s .outputs)) row ≡ 0 → (r : ℕ) → List·Memᴰ r (row ∷ s .closed) → Dec (r ≡ row)
       → getD (set (s .outputs) row (rowMet l (s .slots) row)) r nan ≡ inOneGo l w x r
   close-rows s row g z r i (yes e) =
       let ok = closable _ _ _ _ _ z in
@@ -187,7 +187,7 @@ module _ (l : Layer) (w : List ℕ) (x : List Float) where
   close-rows s row g z r i (no e) =
       getD-set-other (s .outputs) row r (rowMet l (s .slots) row) nan e ∙ ⊎-elim (λ q. absurd (e q)) (λ q. g .demand .rows r q) (List·Memᴰ·cases-cons i)
 
-  good-close : (s : State) (row : ℕ) → Good s → Dec (closeNo l (length (s .slots)) (s .marks) (length (s .outputs)) row ≡ 0) → Good (call l w x s (close row))
+  good-close : (s : HistoryState) (row : ℕ) → Good s → Dec (closeNo l (length (s .slots)) (s .marks) (length (s .outputs)) row ≡ 0) → Good (call l w x s (close row))
   unfolding call closeSays
   good-close s row g (yes z) =
       rw (carried-done _ (set (s .outputs) row (rowMet l (s .slots) row)) (s .outputs) z) (record {
@@ -200,12 +200,12 @@ module _ (l : Layer) (w : List ℕ) (x : List Float) where
         demand = record { rows = g .demand .rows; counted = g .demand .counted };
       })
 
-  good-call : (s : State) (c : Call) → Good s → Good (call l w x s c)
+  good-call : (s : HistoryState) (c : Call) → Good s → Good (call l w x s c)
   good-call s (piece row c) g = good-piece s row c g (ℕ-discrete _ 0)
   good-call s (run budget) g = good-run s budget g (ℕ-discrete _ 0)
   good-call s (close row) g = good-close s row g (ℕ-discrete _ 0)
 
-  good-calls : (s : State) (cs : List Call) → Good s → Good (calls l w x s cs)
+  good-calls : (s : HistoryState) (cs : List Call) → Good s → Good (calls l w x s cs)
   unfolding calls
   good-calls s [] g = g
   good-calls s (c ∷ cs) g = good-calls (call l w x s c) cs (good-call s c g)

@@ -37,7 +37,7 @@ pub data Call : Type 0 where
   close : (row : ℕ) → Call
 
 -- what stands in the three buffers, how many pieces were accepted, and which rows were closed
-pub record State : Type 0 where
+pub record HistoryState : Type 0 where
   pub slots : List Float
   pub marks : List ℕ
   pub outputs : List Float
@@ -62,7 +62,7 @@ closedBy done row rows = row ∷ rows
 closedBy (refused num) row rows = rows
 
 -- one call
-unfoldable pub call : Layer → List ℕ → List Float → State → Call → State
+unfoldable pub call : Layer → List ℕ → List Float → HistoryState → Call → HistoryState
 call l w x s (piece row c) =
     let r = pieceSays l w x row c (s .slots) (s .marks) in
     record { slots = r .1 .0; marks = r .1 .1; outputs = s .outputs; accepted = s .accepted + acceptedBy (r .0); closed = s .closed }
@@ -88,18 +88,18 @@ call l w x s (close row) =
     }
 
 -- the calls, one after another
-unfoldable pub calls : Layer → List ℕ → List Float → State → List Call → State
+unfoldable pub calls : Layer → List ℕ → List Float → HistoryState → List Call → HistoryState
 calls l w x s [] = s
 calls l w x s (c ∷ cs) = calls l w x (call l w x s c) cs
 
 -- after an open: no piece accepted yet, and no row closed
-unfoldable pub opened : Layer → List Float → List ℕ → List Float → State
+unfoldable pub opened : Layer → List Float → List ℕ → List Float → HistoryState
 opened l slots marks outputs =
     let r = openSays l slots marks in
     record { slots = r .1 .0; marks = r .1 .1; outputs = outputs; accepted = 0; closed = [] }
 
 -- each closed row has the bits of decoding that row by the published layout and taking the fixed-order dot in one go,
 -- or both are NaN; pieces accepted plus pieces open is the layer's piece count
-pub record Demand3 (l : Layer) (w : List ℕ) (x : List Float) (s : State) : Type 0 where
+pub record Demand3 (l : Layer) (w : List ℕ) (x : List Float) (s : HistoryState) : Type 0 where
   pub rows : (row : ℕ) → List·Memᴰ row (s .closed) → getD (s .outputs) row nan ≡ inOneGo l w x row
   pub counted : s .accepted + openOf l (s .marks) ≡ pieces l

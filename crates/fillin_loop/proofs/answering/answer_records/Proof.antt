@@ -7,7 +7,7 @@ use mathlib.Core.List.{List}
 use lib.ListN.{length, take, drop, length-take, length-drop}
 use lib.Seq.{length-take-le}
 use Rattle.records.specs.declared.frame.Next.the-variants.{Bytes, More}
-use Rattle.fillin_answer.specs.Kept.{Held}
+use Rattle.fillin_answer.specs.Kept.{Sound}
 use Rattle.fillin_answer.proofs.Begun.{begins}
 use Rattle.records.proofs.Pieces.{next-within, more-short}
 use Rattle.fillin_loop.specs.declared.input.Unread.{Unread}
@@ -17,7 +17,7 @@ use Rattle.fillin_loop.proofs.answering.answer_records.Tie as tie
 
 abbrev Inv-loop : tie.InvT-loop
 Inv-loop desk buf₀ weights₀ line₀ st₀ progress₀ unread₀ counter₀ buf weights line st progress unread counter =
-    Held st × (counter ≤ 2 ^ 48) × (st .offset ≤ counter * 32772) × (st .answered + st .refused ≤ counter) × (length buf ≡ length buf₀) × (length weights ≡ length weights₀) × (length line ≡ length line₀) × Within buf unread
+    Sound st × (counter ≤ 2 ^ 48) × (st .offset ≤ counter * 32772) × (st .answered + st .refused ≤ counter) × (length buf ≡ length buf₀) × (length weights ≡ length weights₀) × (length line ≡ length line₀) × Within buf unread
 
 abbrev μ-loop : tie.MeasureT-loop
 μ-loop desk buf₀ weights₀ line₀ st₀ progress₀ unread₀ counter₀ buf weights line st progress unread counter = 2 ^ 48 - counter
