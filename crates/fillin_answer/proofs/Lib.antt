@@ -1,8 +1,6 @@
--- What `fillin` answers: what is held from record to record, and that answering record by record, and in whatever pieces the input comes, gives the transcript of the whole input.
+-- What `fillin` answers: what is held from record to record.
 pub mod Replies
 pub mod Begun
 pub mod Holding
 pub mod Concluding
-pub mod RecordByRecord
-pub mod PieceByPiece
 pub mod Unique

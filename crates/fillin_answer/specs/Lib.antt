@@ -1,4 +1,3 @@
--- What `fillin` answers: to one record, and to a whole input.
+-- What `fillin` answers to one record.
 pub mod Kept
 pub mod Answers
-pub mod Transcript

@@ -21,10 +21,10 @@ use Rattle.stepped_shape.proofs.Shapes.{row-within, workable}
 use Rattle.stepped_shape.proofs.Marks.{open-append}
 use Rattle.stepped.specs.Says as said
 use Rattle.stepped.specs.Says.{RunSaid, openSays, runSays, rowMet, closeSays}
-use Rattle.stepped.specs.History.{inOneGo, run, close, closedBy, call, calls, opened}
+use Rattle.stepped_history.specs.History.{inOneGo, run, close, closedBy, call, calls, opened}
 use Rattle.stepped.proofs.Answers.{ran-done}
 use Rattle.stepped.proofs.Counts.{run-counts}
-use Rattle.stepped.proofs.History.{demand3}
+use Rattle.stepped_history.proofs.History.{demand3}
 
 -- no piece of the layer is open: none of a row is
 none-in-row : (l : Layer) (marks : List ℕ) (row : ℕ) → row < l .«out_feat» → openOf l marks ≡ 0 → openInRow l marks row ≡ 0

@@ -11,7 +11,7 @@ ghost use Rattle.memory.specs.Lists.{filled};
 ghost use Rattle.stepped_shape.specs.Layer.{openOf};
 ghost use Rattle.stepped_shape.specs.Refusals.{openNo, workNo};
 ghost use Rattle.stepped.specs.Says.{rowMet};
-ghost use Rattle.stepped.specs.History.{inOneGo};
+ghost use Rattle.stepped_history.specs.History.{inOneGo};
 ghost use Rattle.fillin_window.specs.Windows.{readingsIn};
 
 // A slot and a mark for each row: a layer record has at most 16 rows, of one chunk each.

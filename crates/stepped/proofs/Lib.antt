@@ -1,9 +1,6 @@
--- Laws of the stepped layer's calls, demand 3, and one answer for each call.
+-- Laws of the stepped layer's calls, and one answer for each call.
 pub mod Lists
 pub mod Answers
 pub mod Runs
 pub mod Counts
-pub mod History
-pub mod OneGo
-pub mod Calls
 pub mod Unique

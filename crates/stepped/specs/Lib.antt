@@ -1,3 +1,2 @@
--- Document 01's "The stepped layer": its calls, and demand 3.
+-- Document 01's "The stepped layer": its calls.
 pub mod Says
-pub mod History

@@ -10,7 +10,7 @@ use lib.Ieee.{Float}
 use Rattle.memory.specs.Lists.{table, filled}
 use Rattle.memory.proofs.Filled.{length-table}
 use Rattle.stepped_shape.specs.Refusals.{workNo}
-use Rattle.stepped.specs.History.{inOneGo}
+use Rattle.stepped_history.specs.History.{inOneGo}
 use Rattle.records.specs.Kinds.{readingAt}
 use Rattle.fillin_window.specs.Windows.{readingsIn}
 use Rattle.fillin_window.proofs.outputs.window_outputs.Statement.{statement}

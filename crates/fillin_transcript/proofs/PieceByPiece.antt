@@ -13,11 +13,11 @@ use Rattle.records.specs.Found.{foundAt}
 use Rattle.records.specs.Pieces.{nextIn}
 use Rattle.records.proofs.OneByOne.{size-least}
 use Rattle.records.proofs.Pieces.{size-front, next-whole, next-left, next-more}
 use Rattle.fillin_answer.specs.declared.state.State.{State}
 use Rattle.fillin_answer.specs.Kept.{begun}
 use Rattle.fillin_answer.specs.Answers.{Response, answerTo}
-use Rattle.fillin_answer.specs.Transcript.{transcript, byRecords, joined, came, behind, over, byNext, byPieces}
-use Rattle.fillin_answer.proofs.RecordByRecord.{cond-same, record-by-record}
+use Rattle.fillin_transcript.specs.Transcript.{transcript, byRecords, joined, came, behind, over, byNext, byPieces}
+use Rattle.fillin_transcript.proofs.RecordByRecord.{cond-same, record-by-record}
 
 -- the lines from an answer on
 abbrev onward : Response → List ℕ → List ℕ

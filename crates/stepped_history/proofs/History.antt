@@ -26,11 +26,11 @@ use Rattle.stepped_shape.specs.Ready.{InLayer}
 use Rattle.stepped_shape.proofs.Shapes.{place-within, row-within, openable, pieceable, closable}
 use Rattle.stepped_shape.proofs.Marks.{open-append, open-set-take, none-open}
 use Rattle.stepped_pieces.specs.Pieces.{sumAt, worked, marked, pieceSays}
 use Rattle.stepped.specs.Says.{noSum, noMark, Work, work, slotsOf, marksOf, visit, visitRow, visitRows, runWork, openSays, runSays, rowMet, closeSays}
-use Rattle.stepped.specs.History.{decodedRow, inOneGo, Call, piece, run, close, HistoryState, call, calls, opened, Demand3}
+use Rattle.stepped_history.specs.History.{decodedRow, inOneGo, Call, piece, run, close, HistoryState, call, calls, opened, Demand3}
 use Rattle.stepped.proofs.Answers.{ran-done, ran-refused}
 use Rattle.stepped.proofs.Runs.{visit-open, visit-done, visit-over}
 use Rattle.stepped.proofs.Counts.{run-counts}
 
 -- ---- two pieces at one place are one piece
 

@@ -10,10 +10,10 @@ use Rattle.records.specs.Frame.{sizeOf, payloadAt}
 use Rattle.records.specs.Found.{Found, ended, layer, window, warmUp, refused, foundAt, later}
 use Rattle.records.proofs.Read.{layer-read, window-read, warm-up-read}
 use Rattle.records.proofs.OneByOne.{ownBytes, own-payload, one-at-a-time, own-layer, own-window, own-warm-up}
 use Rattle.fillin_answer.specs.declared.state.State.{State}
 use Rattle.fillin_answer.specs.Kept.{begun}
 use Rattle.fillin_answer.specs.Answers.{Response, respond, answerTo}
-use Rattle.fillin_answer.specs.Transcript.{answerIn, linesFrom, transcript, byRecords}
+use Rattle.fillin_transcript.specs.Transcript.{answerIn, linesFrom, transcript, byRecords}
 
 module _ (s : List ℕ) (st : State) (w : List ℕ) (within : st .offset ≤ length s) where
   abbrev at : ℕ

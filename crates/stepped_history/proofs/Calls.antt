@@ -8,12 +8,12 @@ use Rattle.refusals.specs.declared.Outcome.{Outcome}
 use Rattle.refusals.specs.Said.{Said, outcomeSays}
 use Rattle.stepped_shape.specs.declared.shape.Layer.{Layer}
 use Rattle.stepped_pieces.proofs.piece.Reads as piecing
 use Rattle.stepped.specs.declared.running.Progress.{Progress}
 use Rattle.stepped.specs.Says.{RunSaid, progressSays}
-use Rattle.stepped.specs.History.{piece, run, close, HistoryState, acceptedBy, acceptedByRun, closedBy, call, opened}
-use Rattle.stepped.proofs.opening.open.Reads as opening
-use Rattle.stepped.proofs.running.run.Reads as running
-use Rattle.stepped.proofs.closing.close.Reads as closing
+use Rattle.stepped_history.specs.History.{piece, run, close, HistoryState, acceptedBy, acceptedByRun, closedBy, call, opened}
+use Rattle.stepped.proofs.open.Reads as opening
+use Rattle.stepped.proofs.run.Reads as running
+use Rattle.stepped.proofs.close.Reads as closing
 
 -- what stands in the three buffers, how many pieces were accepted, and which rows were closed
 abbrev state : List Float → List ℕ → List Float → ℕ → List ℕ → HistoryState

@@ -22,8 +22,8 @@ use Rattle.stepped_shape.specs.declared.shape.Layer.{Layer}
 use Rattle.stepped_shape.specs.Layer.{chunks, pieces, layerRowBytes, rowOf}
 use Rattle.stepped_shape.specs.Ready.{LayerReady}
 use Rattle.stepped_shape.proofs.Shapes.{shaped, bytes-within, row-enough}
 use Rattle.stepped.specs.Says.{rowMet}
-use Rattle.stepped.specs.History.{decodedRow, inOneGo}
+use Rattle.stepped_history.specs.History.{decodedRow, inOneGo}
 
 -- ---- an in_feat of 0 has no pieces, and every row closes at +0.0
 

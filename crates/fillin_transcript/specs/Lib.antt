@@ -1,0 +1,2 @@
+-- The transcript of a whole input.
+pub mod Transcript
