@@ -5,7 +5,7 @@ use mathlib.Core.List.{List, _++_}
 use native.Mathlib.Omega.{arith}
 use lib.ListN.{length, take, drop, length-append, take-append-drop}
 use lib.Seq.{length-take-le}
-use Rattle.records.specs.Frame.{payloadAt}
+use Rattle.frames.specs.Frame.{payloadAt}
 use Rattle.records.specs.Found.{Found, foundAt, later}
 use Rattle.fillin_text.specs.Text.{laid}
 use Rattle.fillin_text.proofs.Laid.{laid-front}

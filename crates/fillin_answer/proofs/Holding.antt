@@ -12,7 +12,7 @@ use Rattle.refusals.specs.Sizes.{mostIn, mostOut}
 use Rattle.refusals.proofs.Laws.{given-no, else-later}
 use Rattle.stepped_shape.specs.Layer.{layerOf, chunks, pieces, layerRowBytes, weightNeed}
 use Rattle.stepped_shape.specs.Refusals.{shapeNo, roomNo, workNo}
-use Rattle.records.specs.Frame.{payloadAt}
+use Rattle.frames.specs.Frame.{payloadAt}
 use Rattle.records.specs.Kinds.{weightBytes}
 use Rattle.records.specs.Found.{Found, ended, layer, window, warmUp, refused, foundAt, later}
 use Rattle.records.proofs.Read.{few-weights, layer-read, window-read, warm-up-read}

@@ -9,7 +9,7 @@ use Rattle.memory.specs.Lists.{table}
 use Rattle.stepped_shape.specs.declared.shape.Layer.{Layer}
 use Rattle.stepped_shape.specs.Layer.{layerOf}
 use Rattle.stepped_history.specs.History.{inOneGo}
-use Rattle.records.specs.Frame.{payloadAt}
+use Rattle.frames.specs.Frame.{payloadAt}
 use Rattle.records.specs.Found.{Found, ended, layer, window, warmUp, refused, foundAt, later}
 use Rattle.fillin_window.specs.Windows.{readingsIn}
 use Rattle.fillin_text.specs.Text.{laid}

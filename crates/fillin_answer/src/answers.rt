@@ -161,17 +161,11 @@ pub fn answer(st: State, record: &[u8], weights: &mut [u8], line: &mut [u8]) -> 
                 in_feat,
                 out_feat,
             };
-            take_layer(st, latest, next, records::payload(record, 0), weights, line)
+            take_layer(st, latest, next, frames::payload(record, 0), weights, line)
         }
         Item::Window { next } => {
             let held = st.weight_bytes;
-            answer_window(
-                st,
-                next,
-                records::payload(record, 0),
-                &weights[..held],
-                line,
-            )
+            answer_window(st, next, frames::payload(record, 0), &weights[..held], line)
         }
         Item::WarmUp { next } => refuse_window(st, next, line),
         Item::Refused(no) => stop(st, no, line),

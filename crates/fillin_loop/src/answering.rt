@@ -5,11 +5,11 @@ use crate::input::nothing_read;
 use crate::input::read_on;
 use crate::progress::Counter;
 use fillin_answer::State;
+use frames::Next;
 use libc::STDERR_FILENO;
-use records::Next;
 ghost use Prim.Native.Nat.{_≤_, _<_};
 ghost use lib.ListN.{length};
-ghost use Rattle.records.specs.Frame.{mostRecord};
+ghost use Rattle.frames.specs.Frame.{mostRecord};
 ghost use Rattle.records.specs.Kinds.{mostWeights};
 ghost use Rattle.fillin_lines.specs.Lines.{mostLine};
 ghost use Rattle.fillin_answer.specs.Kept.{Ready};
@@ -110,7 +110,7 @@ fn answer_records(desk: Desk, buf: &mut [u8], weights: &mut [u8], line: &mut [u8
     for _ in 0..MOST_TURNS {
         let from = unread.from;
         let to = unread.to;
-        let Next::Bytes(size) = records::next_record(&buf[from..to], unread.ended) else {
+        let Next::Bytes(size) = frames::next_record(&buf[from..to], unread.ended) else {
             unread = read_on(desk, buf, unread);
             if unread.failed {
                 return finish(progress, Ending::Unreadable);

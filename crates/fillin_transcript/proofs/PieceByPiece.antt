@@ -8,11 +8,10 @@ use borrow.Author.Tests.{leb-true, leb-false}
 use lib.Dec.{leb}
 use lib.ListN.{length, take, drop, length-append, length-drop, drop-of-length-le}
 use lib.Seq.{take-all, take-length, take-append-le, drop-append-le}
-use Rattle.records.specs.Frame.{sizeOf}
+use Rattle.frames.specs.Frame.{sizeOf}
 use Rattle.records.specs.Found.{foundAt}
-use Rattle.records.specs.Pieces.{nextIn}
-use Rattle.records.proofs.OneByOne.{size-least}
-use Rattle.records.proofs.Pieces.{size-front, next-whole, next-left, next-more}
+use Rattle.frames.specs.Pieces.{nextIn}
+use Rattle.frames.proofs.Pieces.{size-least, size-front, next-whole, next-left, next-more}
 use Rattle.fillin_answer.specs.declared.state.State.{State}
 use Rattle.fillin_answer.specs.Kept.{begun}
 use Rattle.fillin_answer.specs.Answers.{Response, answerTo}

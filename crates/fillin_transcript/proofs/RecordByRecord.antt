@@ -6,7 +6,7 @@ use mathlib.Core.List.{List, [], _++_}
 use native.Mathlib.Omega.{arith}
 use lib.ListN.{length, drop}
 use lib.Seq.{drop-drop}
-use Rattle.records.specs.Frame.{sizeOf, payloadAt}
+use Rattle.frames.specs.Frame.{sizeOf, payloadAt}
 use Rattle.records.specs.Found.{Found, ended, layer, window, warmUp, refused, foundAt, later}
 use Rattle.records.proofs.Read.{layer-read, window-read, warm-up-read}
 use Rattle.records.proofs.OneByOne.{ownBytes, own-payload, one-at-a-time, own-layer, own-window, own-warm-up}

@@ -3,11 +3,11 @@ use Prim.Native.Nat.{ℕ, zero, suc, _+_}
 use mathlib.Core.Bool.{Bool, true, false, cond}
 use mathlib.Core.List.{List, [], _∷_, _++_}
 use lib.ListN.{length, take, drop}
-use Rattle.records.specs.Frame.{sizeOf, payloadAt}
+use Rattle.frames.specs.Frame.{sizeOf, payloadAt}
 use Rattle.records.specs.Found.{foundAt}
-use Rattle.records.specs.Pieces.{nextIn}
-use Rattle.records.specs.declared.frame.Next.{Next}
-use Rattle.records.specs.declared.frame.Next.the-variants.{Bytes, More}
+use Rattle.frames.specs.Pieces.{nextIn}
+use Rattle.frames.specs.declared.frame.Next.{Next}
+use Rattle.frames.specs.declared.frame.Next.the-variants.{Bytes, More}
 use Rattle.fillin_answer.specs.declared.state.State.{State}
 use Rattle.fillin_answer.specs.Kept.{begun}
 use Rattle.fillin_answer.specs.Answers.{Response, respond, answerTo}

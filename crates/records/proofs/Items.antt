@@ -6,7 +6,7 @@ use mathlib.Core.List.{List}
 use borrow.Author.Tests.{eq-eqb, ne-eqb}
 use lib.ListN.{length}
 use Rattle.numbers.specs.Fields.{le32}
-use Rattle.records.specs.Frame.{isWhole, kindAt, payloadAt}
+use Rattle.frames.specs.Frame.{isWhole, kindAt, payloadAt}
 use Rattle.records.specs.Kinds.{formatIn, inFeatIn, outFeatIn, layerRecordNo, windowNo}
 use Rattle.records.specs.Found.{ended, layer, window, warmUp, refused, layerFound, windowFound, recordFound, foundAt}
 

@@ -1,9 +1,7 @@
--- What is known of a record that was read, that records may be read one at a time and come in pieces, and one answer for each call.
-pub mod Whole
+-- What is known of a record that was read, that records may be read one at a time, and one answer for each call.
 pub mod UpTo
 pub mod Zeros
 pub mod Items
 pub mod Read
 pub mod OneByOne
-pub mod Pieces
 pub mod Unique

@@ -10,25 +10,16 @@ use lib.ListN.{length, getD, take, drop, length-drop, length-take}
 use lib.Seq.{getD-take, getD-drop, length-take-le, take-add, drop-at, take-take, drop-drop}
 use Rattle.memory.specs.Lists.{part}
 use Rattle.numbers.specs.Fields.{le32}
-use Rattle.records.specs.Frame.{goodLength, sizeOf, isWhole, nextAt, kindAt, payloadAt}
+use Rattle.frames.specs.Frame.{goodLength, sizeOf, isWhole, nextAt, kindAt, payloadAt}
 use Rattle.records.specs.Kinds.{layerRecordNo, windowNo}
 use Rattle.records.specs.Found.{Found, layer, window, warmUp, refused, layerFound, windowFound, recordFound, foundAt, later}
-use Rattle.records.proofs.Whole.{together, Whole, whole, whole-true, good-true, payload-whole, payload-none}
+use Rattle.frames.proofs.Pieces.{size-least}
+use Rattle.frames.proofs.Whole.{together, Whole, whole, whole-true, good-true, payload-whole, payload-none}
 use Rattle.records.proofs.Read.{a-layer, a-window, a-warm-up, reached, layer-read, window-read, warm-up-read}
 
 -- the bytes of the record at i
 abbrev pub ownBytes : List ℕ → ℕ → List ℕ
 ownBytes s i = take (sizeOf (drop i s)) (drop i s)
-
--- a record has 4 bytes at least
-pub size-least : (s : List ℕ) → 4 ≤ sizeOf s
-unfolding sizeOf
-size-least s = go (ltb (length s) 4) (goodLength (le32 s 0)) refl refl
-  where
-    go : (a b : Bool) → ltb (length s) 4 ≡ a → goodLength (le32 s 0) ≡ b → 4 ≤ sizeOf s
-    go true b e f = simp e (omega arith)
-    go false true e f = simp (e, f) (omega arith)
-    go false false e f = simp (e, f) (omega arith)
 
 -- the size of a whole record
 size-whole : (s : List ℕ) → Whole s 0 → sizeOf s ≡ 4 + le32 s 0

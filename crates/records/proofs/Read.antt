@@ -13,10 +13,10 @@ use Rattle.refusals.proofs.Laws.{given-none, else-none}
 use Rattle.layouts.specs.Formats.{knownFormat, formatOf}
 use Rattle.layouts.specs.declared.format.Format.the-variants.{OfK}
 use Rattle.layouts.proofs.Sizes.{sizes}
-use Rattle.records.specs.Frame.{isWhole, nextAt, kindAt, payloadAt}
+use Rattle.frames.specs.Frame.{isWhole, nextAt, kindAt, payloadAt}
 use Rattle.records.specs.Kinds.{formatIn, inFeatIn, outFeatIn, weightBytes, sizesNo, layerRecordNo, windowNo}
 use Rattle.records.specs.Found.{Found, ended, layer, window, warmUp, refused, layerFound, windowFound, recordFound, foundAt}
-use Rattle.records.proofs.Whole.{whole}
+use Rattle.frames.proofs.Whole.{whole}
 use Rattle.records.proofs.UpTo.{up-to}
 
 -- ---- by which arm a choice gave what it gave

@@ -4,7 +4,7 @@ use mathlib.Core.Path.{_≡_}
 use mathlib.Core.Bool.{true, false, not, and-false}
 use borrow.Author.Tests.{leb-true, le-leb, lt-leb}
 use Rattle.records.specs.Kinds.{upTo}
-use Rattle.records.proofs.Whole.{both}
+use Rattle.frames.proofs.Whole.{both}
 
 pub up-to : (most n : ℕ) → upTo most n ≡ true → (1 ≤ n) × (n ≤ most)
 unfolding upTo

@@ -6,7 +6,7 @@ use lib.Dec.{eqb}
 use lib.ListN.{length}
 use Rattle.records.specs.declared.reader.Item.{Item}
 use Rattle.records.specs.declared.reader.Item.the-variants as item
-use Rattle.records.specs.Frame.{isWhole, nextAt, kindAt, payloadAt}
+use Rattle.frames.specs.Frame.{isWhole, nextAt, kindAt, payloadAt}
 use Rattle.records.specs.Kinds.{formatIn, inFeatIn, outFeatIn, layerRecordNo, windowNo}
 
 -- nothing, a layer, a window, a warm-up window (13), or a number that says no; next is the offset behind the record

@@ -1,5 +1,5 @@
 // Kind 1, a layer: format byte, u32 in_feat, u32 out_feat, then exactly the weights.
-use crate::fields::u32_at;
+use frames::u32_at;
 ghost use mathlib.Core.Path.{_≡_};
 ghost use mathlib.Core.Bool.{true};
 ghost use Prim.Native.Nat.{_≤_};

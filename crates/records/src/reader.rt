@@ -1,10 +1,10 @@
 // What stands at an offset of a record file.
-use crate::fields::u16_at;
-use crate::fields::u32_at;
-use crate::frame::is_whole;
-use crate::frame::payload;
 use crate::layers::layer_no;
 use crate::windows::window_no;
+use frames::is_whole;
+use frames::payload;
+use frames::u16_at;
+use frames::u32_at;
 ghost use mathlib.Core.Path.{_≡_};
 ghost use Rattle.records.specs.Kinds.{layerRecordNo, windowNo};
 ghost use Rattle.records.specs.Found.{itemSays, layerFound, windowFound, foundAt};

@@ -1,5 +1,5 @@
 // Kind 2, a window: in_feat f32 values for the latest layer.
-use crate::fields::bits_at;
+use frames::bits_at;
 ghost use mathlib.Core.Path.{_≡_};
 ghost use Prim.Native.Nat.{_*_, _≤_};
 ghost use lib.ListN.{length};

@@ -7,7 +7,7 @@ use mathlib.Core.List.{List, []}
 use lib.ListN.{length, take, drop, length-drop}
 use lib.Seq.{length-take-le}
 use Rattle.records.specs.Found.{ended, layer, window, warmUp, refused, itemSays, foundAt, later}
-use Rattle.records.specs.Frame.{payloadAt}
+use Rattle.frames.specs.Frame.{payloadAt}
 use Rattle.records.proofs.Read.{layer-read, window-read, warm-up-read}
 use Rattle.fillin_text.specs.Text.{laid}
 use Rattle.fillin_answer.specs.Answers.{Response, respond}

@@ -6,10 +6,10 @@ use borrow.Author.Needs.{needs}
 use mathlib.Core.List.{List}
 use lib.ListN.{length, take, drop, length-take, length-drop}
 use lib.Seq.{length-take-le}
-use Rattle.records.specs.declared.frame.Next.the-variants.{Bytes, More}
+use Rattle.frames.specs.declared.frame.Next.the-variants.{Bytes, More}
 use Rattle.fillin_answer.specs.Kept.{Sound}
 use Rattle.fillin_answer.proofs.Begun.{begins}
-use Rattle.records.proofs.Pieces.{next-within, more-short}
+use Rattle.frames.proofs.Pieces.{next-within, more-short}
 use Rattle.fillin_loop.specs.declared.input.Unread.{Unread}
 use Rattle.fillin_loop.specs.Input.{unreadIn, Within}
 use Rattle.fillin_loop.proofs.answering.answer_records.Statement.{statement}

@@ -7,9 +7,9 @@ use Prim.Native.Nat.{ℕ, _+_}
 use borrow.Author.Needs.{needs}
 use borrow.Author.Tests.{not-true, not-false}
 use denote.Ref.{now}
-use Rattle.records.specs.Frame.{isWhole, payloadAt}
+use Rattle.frames.specs.Frame.{isWhole, payloadAt}
 use Rattle.records.specs.Found.{recordFound, foundAt}
-use Rattle.records.proofs.Whole.{Whole, whole}
+use Rattle.frames.proofs.Whole.{Whole, whole}
 use Rattle.records.proofs.Items.{record-layer, record-window, record-other, found-end, found-cut, found-record}
 use Rattle.records.proofs.reader.read_at.Statement.{statement}
 use Rattle.records.proofs.reader.read_at.Tie as tie

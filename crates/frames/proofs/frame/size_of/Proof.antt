@@ -7,11 +7,11 @@ use native.Mathlib.Omega.{arith}
 use borrow.Author.Tests.{lt-ltb, le-ltb}
 use lib.ListN.{length}
 use Rattle.numbers.specs.Fields.{le32}
-use Rattle.records.specs.Frame.{goodLength, sizeOf}
-use Rattle.records.proofs.Whole.{good}
+use Rattle.frames.specs.Frame.{goodLength, sizeOf}
+use Rattle.frames.proofs.Whole.{good}
 use borrow.Author.Needs.{needs}
-use Rattle.records.proofs.frame.size_of.Statement.{statement}
-use Rattle.records.proofs.frame.size_of.Tie as tie
+use Rattle.frames.proofs.frame.size_of.Statement.{statement}
+use Rattle.frames.proofs.frame.size_of.Tie as tie
 
 returns : tie.Need-returns
 unfolding sizeOf

@@ -3,12 +3,12 @@ use mathlib.Core.Path.{sym, ap, subst, _∙_}
 use Prim.Native.Nat.{ℕ, _≤_, _<_}
 use borrow.Author.Needs.{needs}
 use lib.ListN.{length}
-use Rattle.records.specs.declared.frame.Next.the-variants.{Bytes}
-use Rattle.records.specs.Frame.{sizeOf}
-use Rattle.records.specs.Pieces.{nextIn}
-use Rattle.records.proofs.Pieces.{next-whole, next-left, next-more}
-use Rattle.records.proofs.frame.next_record.Statement.{statement}
-use Rattle.records.proofs.frame.next_record.Tie as tie
+use Rattle.frames.specs.declared.frame.Next.the-variants.{Bytes}
+use Rattle.frames.specs.Frame.{sizeOf}
+use Rattle.frames.specs.Pieces.{nextIn}
+use Rattle.frames.proofs.Pieces.{next-whole, next-left, next-more}
+use Rattle.frames.proofs.frame.next_record.Statement.{statement}
+use Rattle.frames.proofs.frame.next_record.Tie as tie
 
 size-of-requires : tie.Need-size-of-requires
 size-of-requires c κs = search needs

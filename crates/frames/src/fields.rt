@@ -5,7 +5,7 @@ ghost use lib.ListN.{length};
 ghost use Rattle.numbers.specs.Fields.{le16, le32};
 
 // The two bytes at i.
-pub(crate) fn u16_at(s: &[u8], i: usize) -> usize
+pub fn u16_at(s: &[u8], i: usize) -> usize
     requires { ⌜ i + 2 ≤ length (now s) ⌝ }
     ensures { λ r. ⌜ (r ≡ le16 (now (s .entry)) i) × (r < 65536) ⌝ }
 {
@@ -13,7 +13,7 @@ pub(crate) fn u16_at(s: &[u8], i: usize) -> usize
 }
 
 // The four bytes at i, as bits.
-pub(crate) fn bits_at(s: &[u8], i: usize) -> u32
+pub fn bits_at(s: &[u8], i: usize) -> u32
     requires { ⌜ i + 4 ≤ length (now s) ⌝ }
     ensures { λ r. ⌜ r ≡ le32 (now (s .entry)) i ⌝ }
 {
@@ -21,7 +21,7 @@ pub(crate) fn bits_at(s: &[u8], i: usize) -> u32
 }
 
 // The four bytes at i, as a size.
-pub(crate) fn u32_at(s: &[u8], i: usize) -> usize
+pub fn u32_at(s: &[u8], i: usize) -> usize
     requires { ⌜ i + 4 ≤ length (now s) ⌝ }
     ensures { λ r. ⌜ (r ≡ le32 (now (s .entry)) i) × (r < 4294967296) ⌝ }
 {

@@ -7,11 +7,11 @@ use native.Mathlib.Omega.{arith}
 use denote.Ref.{now}
 use lib.ListN.{take, drop}
 use Rattle.numbers.specs.Fields.{le32}
-use Rattle.records.specs.Frame.{isWhole, payloadAt}
-use Rattle.records.proofs.Whole.{Whole, whole, payload-whole, payload-none}
+use Rattle.frames.specs.Frame.{isWhole, payloadAt}
+use Rattle.frames.proofs.Whole.{Whole, whole, payload-whole, payload-none}
 use borrow.Author.Needs.{needs}
-use Rattle.records.proofs.frame.payload.Statement.{statement}
-use Rattle.records.proofs.frame.payload.Tie as tie
+use Rattle.frames.proofs.frame.payload.Statement.{statement}
+use Rattle.frames.proofs.frame.payload.Tie as tie
 
 is-whole-requires : tie.Need-is-whole-requires
 is-whole-requires c κs = search needs

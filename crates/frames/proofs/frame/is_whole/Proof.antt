@@ -9,11 +9,11 @@ use denote.Ref.{now}
 use lib.Dec.{leb}
 use lib.ListN.{length}
 use Rattle.numbers.specs.Fields.{le32}
-use Rattle.records.specs.Frame.{goodLength, isWhole}
-use Rattle.records.proofs.Whole.{together}
+use Rattle.frames.specs.Frame.{goodLength, isWhole}
+use Rattle.frames.proofs.Whole.{together}
 use borrow.Author.Needs.{needs}
-use Rattle.records.proofs.frame.is_whole.Statement.{statement}
-use Rattle.records.proofs.frame.is_whole.Tie as tie
+use Rattle.frames.proofs.frame.is_whole.Statement.{statement}
+use Rattle.frames.proofs.frame.is_whole.Tie as tie
 
 returns : tie.Need-returns
 unfolding isWhole

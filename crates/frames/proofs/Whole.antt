@@ -7,7 +7,7 @@ use borrow.Author.Tests.{leb-true, le-leb}
 use lib.ListN.{length}
 use Rattle.memory.specs.Lists.{part}
 use Rattle.numbers.specs.Fields.{le32}
-use Rattle.records.specs.Frame.{goodLength, isWhole, payloadAt}
+use Rattle.frames.specs.Frame.{goodLength, isWhole, payloadAt}
 
 -- two tests that are met together are one
 pub together : (a b : Bool) → (a ≡ true → b ≡ true) → (b ≡ true → a ≡ true) → a ≡ b

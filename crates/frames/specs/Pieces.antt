@@ -4,9 +4,9 @@ use mathlib.Core.Bool.{Bool, cond}
 use mathlib.Core.List.{List}
 use lib.Dec.{leb}
 use lib.ListN.{length}
-use Rattle.records.specs.declared.frame.Next.{Next}
-use Rattle.records.specs.declared.frame.Next.the-variants.{Bytes, More}
-use Rattle.records.specs.Frame.{sizeOf}
+use Rattle.frames.specs.declared.frame.Next.{Next}
+use Rattle.frames.specs.declared.frame.Next.the-variants.{Bytes, More}
+use Rattle.frames.specs.Frame.{sizeOf}
 
 -- the next record at the front of what has come and is not answered yet: a whole one, or, where the input has ended,
 -- all that is left

@@ -7,12 +7,22 @@ use native.Mathlib.Omega.{arith}
 use borrow.Author.Tests.{le-leb, lt-leb, le-ltb, leb-true, leb-false}
 use lib.Dec.{leb, ltb}
 use lib.ListN.{length, length-append, List·getD-append}
-use Rattle.records.specs.declared.frame.Next.{Next}
-use Rattle.records.specs.declared.frame.Next.the-variants.{Bytes, More}
+use Rattle.frames.specs.declared.frame.Next.{Next}
+use Rattle.frames.specs.declared.frame.Next.the-variants.{Bytes, More}
 use Rattle.numbers.specs.Fields.{le32}
-use Rattle.records.specs.Frame.{goodLength, sizeOf}
-use Rattle.records.specs.Pieces.{nextIn}
-use Rattle.records.proofs.Whole.{good}
+use Rattle.frames.specs.Frame.{goodLength, sizeOf}
+use Rattle.frames.specs.Pieces.{nextIn}
+use Rattle.frames.proofs.Whole.{good}
+
+-- a record has 4 bytes at least
+pub size-least : (s : List ℕ) → 4 ≤ sizeOf s
+unfolding sizeOf
+size-least s = go (ltb (length s) 4) (goodLength (le32 s 0)) refl refl
+  where
+    go : (a b : Bool) → ltb (length s) 4 ≡ a → goodLength (le32 s 0) ≡ b → 4 ≤ sizeOf s
+    go true b e f = simp e (omega arith)
+    go false true e f = simp (e, f) (omega arith)
+    go false false e f = simp (e, f) (omega arith)
 
 -- a record has 32,772 bytes at most
 pub size-most : (s : List ℕ) → sizeOf s ≤ 32772

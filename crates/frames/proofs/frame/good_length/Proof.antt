@@ -1,8 +1,8 @@
 -- `frame::good_length` meets its contract. Assumes nothing.
 use borrow.Author.Tests.{le-leb, lt-leb}
-use Rattle.records.specs.Frame.{goodLength}
-use Rattle.records.proofs.frame.good_length.Statement.{statement}
-use Rattle.records.proofs.frame.good_length.Tie as tie
+use Rattle.frames.specs.Frame.{goodLength}
+use Rattle.frames.proofs.frame.good_length.Statement.{statement}
+use Rattle.frames.proofs.frame.good_length.Tie as tie
 
 returns : tie.Need-returns
 unfolding goodLength

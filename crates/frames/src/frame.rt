@@ -2,8 +2,8 @@
 use crate::fields::u32_at;
 ghost use mathlib.Core.Path.{_≡_};
 ghost use Prim.Native.Nat.{_≤_};
-ghost use Rattle.records.specs.Frame.{mostRecord, goodLength, sizeOf, isWhole, payloadAt};
-ghost use Rattle.records.specs.Pieces.{nextIn};
+ghost use Rattle.frames.specs.Frame.{mostRecord, goodLength, sizeOf, isWhole, payloadAt};
+ghost use Rattle.frames.specs.Pieces.{nextIn};
 
 // What a length field says at most: a kind and its payload.
 const MOST_LENGTH: usize = 32_768;
@@ -56,7 +56,7 @@ pub fn next_record(rest: &[u8], ended: bool) -> Next
 }
 
 // Whether a whole record with a good length stands at i.
-pub(crate) fn is_whole(s: &[u8], i: usize) -> bool
+pub fn is_whole(s: &[u8], i: usize) -> bool
     ensures { λ r. ⌜ r ≡ isWhole (now (s .entry)) i ⌝ }
 {
     if i > s.len() {
