@@ -8,8 +8,8 @@ use Rattle.halves.specs.Binary16.{widened, narrowed}
 use Rattle.readings.specs.Readings.{largest, largestValue, quantQ8, quantQ40}
 use Rattle.quantizers.specs.Blocks.{scaleOf, storedScale, scaledReading, quantOf, quantByte, byteAt}
 use Rattle.quantizers.specs.Says.{packedAt, quantizeNo, quantizeSays}
-use Rattle.sums.specs.Tree.{pairUp, met, tree}
-use Rattle.sums.specs.Lanes.{addTo, lanesFrom, lanes, chunkSum}
+use Rattle.sums_tree.specs.Tree.{pairUp, met, tree}
+use Rattle.sums_lanes.specs.Lanes.{addTo, lanesFrom, lanes, chunkSum}
 use Rattle.sums.specs.Rows.{chunkAt, rowSum}
 use Rattle.sums.specs.Says.{sumSays}
 use Rattle.dots_activation.specs.Blocks.{blockOf, quantized}

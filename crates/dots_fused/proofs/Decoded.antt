@@ -17,7 +17,7 @@ use Rattle.layouts.specs.declared.format.FormatK.{FormatK}
 use Rattle.layouts.specs.declared.format.Format.the-variants.{OfK}
 use Rattle.decoders.specs.Says.{dequantizeNo, dequantizeSays}
 use Rattle.decoders.proofs.Refused.{room-for-values}
-use Rattle.sums.specs.Lanes.{products}
+use Rattle.sums_lanes.specs.Lanes.{products}
 use Rattle.sums.specs.Rows.{rowSum}
 use Rattle.sums.specs.Says.{dotSays}
 use Rattle.sums.proofs.RowLaws.{row-cong}

@@ -25,7 +25,7 @@ fn row_dot(format: FormatK, x: &[f32], w: &[u8], n: usize) -> f32
         parts[c] = chunk_dot(format, x, w, n, c);
         c += 1;
     }
-    sums::canonical_combine(&mut parts[..chunks])
+    sums_tree::canonical_combine(&mut parts[..chunks])
 }
 
 // The dot of the first n readings and the first n weights that w packs. Refuses 6 and 1, answers n = 0 with +0.0,

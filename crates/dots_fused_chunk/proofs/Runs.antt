@@ -11,8 +11,8 @@ use Rattle.memory.proofs.Filled.{getD-table, part-at, table-part}
 use Rattle.layouts.specs.K.{scaleQ4K, minimumQ4K, quantQ4K, quantQ6K, scaleQ6K, dOf, dminOf}
 use Rattle.layouts.specs.declared.format.FormatK.the-variants.{Q4K, Q6K}
 use Rattle.decoded_blocks.proofs.Runs.{q6k-run}
-use Rattle.sums.specs.Lanes.{lanesFrom}
-use Rattle.sums.proofs.LaneLaws.{lanes-block}
+use Rattle.sums_lanes.specs.Lanes.{lanesFrom}
+use Rattle.sums_lanes.proofs.LaneLaws.{lanes-block}
 use Rattle.dots_fused_chunk.specs.Terms.{terms, subBlockTerms, runTerms}
 use Rattle.dots_fused_chunk.proofs.Rows.{one-block}
 

@@ -10,7 +10,7 @@ ghost use lib.ListN.{length};
 ghost use Rattle.refusals.specs.Sizes.{mostIn};
 ghost use Rattle.layouts.specs.Formats.{bytesK};
 ghost use Rattle.layouts.specs.Weights.{valuesOf};
-ghost use Rattle.sums.specs.Lanes.{lanesFrom, lanes};
+ghost use Rattle.sums_lanes.specs.Lanes.{lanesFrom, lanes};
 ghost use Rattle.sums.specs.Rows.{chunksIn, chunkAt};
 ghost use Rattle.dots_fused_chunk.specs.Terms.{terms};
 
@@ -33,7 +33,7 @@ fn add_short(format: FormatK, l: [f32; 8], x: &[f32], block: &[u8]) -> [f32; 8]
 {
     let mut values = [0.0f32; 256];
     decoded_blocks::decode_k(format, block, &mut values);
-    sums::add_products(l, x, &values)
+    sums_lanes::add_products(l, x, &values)
 }
 
 // The lanes of the whole blocks of x, the first of which has the weights of the first block of w.
@@ -86,5 +86,5 @@ pub fn chunk_dot(format: FormatK, x: &[f32], w: &[u8], n: usize, c: usize) -> f3
     let s = sums::CHUNK * c;
     let e = sums::chunk_end(n, c);
     let from = s / 256 * layouts::block_bytes(Format::OfK(format));
-    sums::tree8(all_blocks(format, &x[s..e], &w[from..]))
+    sums_tree::tree8(all_blocks(format, &x[s..e], &w[from..]))
 }

@@ -3,7 +3,7 @@
 use layouts::FormatK;
 ghost use mathlib.Core.Path.{_≡_};
 ghost use lib.ListN.{length};
-ghost use Rattle.sums.specs.Lanes.{lanesFrom};
+ghost use Rattle.sums_lanes.specs.Lanes.{lanesFrom};
 ghost use Rattle.dots_fused_chunk.specs.Terms.{terms, subBlockTerms};
 
 // Eight terms, one for each lane.

@@ -3,7 +3,7 @@ use layouts::FormatK;
 ghost use mathlib.Core.Path.{_≡_};
 ghost use lib.ListN.{length};
 ghost use lib.Ieee.{binary32, ofInt};
-ghost use Rattle.sums.specs.Lanes.{lanesFrom};
+ghost use Rattle.sums_lanes.specs.Lanes.{lanesFrom};
 ghost use Rattle.dots_fused_chunk.specs.Terms.{terms, runTerms};
 
 // A whole number as a float. It goes over an unsigned byte: SSE2 widens a signed one together with what its register

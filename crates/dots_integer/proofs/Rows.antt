@@ -11,7 +11,7 @@ use Rattle.memory.specs.Lists.{table, filled}
 use Rattle.memory.proofs.Filled.{length-table, Filling, filling-start, filling-more}
 use Rattle.layouts.specs.declared.format.FormatK.{FormatK}
 use Rattle.layouts.specs.Formats.{bytesK}
-use Rattle.sums.specs.Tree.{tree, combined}
+use Rattle.sums_tree.specs.Tree.{tree, combined}
 use Rattle.dots_activation.specs.declared.block.Q8Block.{Q8Block}
 use Rattle.dots_activation.specs.Blocks.{blockOf}
 use Rattle.dots_integer.specs.Dots.{blockDot}

@@ -14,7 +14,7 @@ use Rattle.layouts.specs.Weights.{block}
 use Rattle.layouts.specs.declared.format.Format.the-variants.{OfK}
 use Rattle.layouts.specs.declared.format.FormatK.{FormatK}
 use Rattle.layouts.specs.declared.format.FormatK.the-variants.{Q4K}
-use Rattle.sums.specs.Tree.{tree}
+use Rattle.sums_tree.specs.Tree.{tree}
 use Rattle.dots_activation.specs.Blocks.{blockOf}
 use Rattle.dots_integer.specs.Dots.{blockDot}
 

@@ -47,7 +47,7 @@ fn row_dot(x: &[f32], w: &[u8], n: usize) -> f32
         parts[b] = block_dot_q4k(&w[from..to], quantized_block(&x[s..e]), e - s);
         b += 1;
     }
-    sums::canonical_combine(&mut parts[..blocks])
+    sums_tree::canonical_combine(&mut parts[..blocks])
 }
 
 // The dot of the first n readings, quantised block by block, and the packed weights. Refuses 6 and 1, answers n = 0

@@ -9,8 +9,8 @@ use lib.Ieee.{Float, nan, binary32, add}
 use Rattle.memory.specs.Lists.{table}
 use Rattle.memory.proofs.Filled.{length-table, getD-table, table-ext, table-of}
 use Rattle.numbers.specs.Steps.{nought}
-use Rattle.sums.specs.Lanes.{values}
-use Rattle.sums.specs.Tree.{tree}
+use Rattle.sums_lanes.specs.Lanes.{values}
+use Rattle.sums_tree.specs.Tree.{tree}
 use Rattle.held_rows.specs.declared.meeting.Meeting.{Meeting}
 use Rattle.held_rows.specs.declared.meeting.Meeting.the-variants.{Tree, Running}
 use Rattle.held_rows.specs.Meets.{running, meets}

@@ -3,7 +3,7 @@ use Prim.Native.Nat.{ℕ, zero, suc}
 use lib.Ieee.{Float, binary32, add}
 use Rattle.memory.specs.Lists.{table}
 use Rattle.numbers.specs.Steps.{nought}
-use Rattle.sums.specs.Tree.{tree}
+use Rattle.sums_tree.specs.Tree.{tree}
 use Rattle.held_rows.specs.declared.meeting.Meeting.{Meeting}
 use Rattle.held_rows.specs.declared.meeting.Meeting.the-variants.{Tree, Running}
 

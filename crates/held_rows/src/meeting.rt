@@ -1,7 +1,7 @@
 // How the dots of a row's blocks meet.
 ghost use mathlib.Core.Path.{_≡_};
 ghost use lib.ListN.{length};
-ghost use Rattle.sums.specs.Lanes.{values};
+ghost use Rattle.sums_lanes.specs.Lanes.{values};
 ghost use Rattle.held_rows.specs.Meets.{running, meets};
 
 // In the tree, or, in the `_rs` layers, in a running sum from +0.0.
@@ -26,7 +26,7 @@ pub(crate) fn meet(meeting: Meeting, parts: &mut [f32]) -> f32
     ensures { λ r. ⌜ r ≡ meets meeting (values (now (parts .entry))) (length (now (parts .entry))) ⌝ }
 {
     match meeting {
-        Meeting::Tree => sums::canonical_combine(parts),
+        Meeting::Tree => sums_tree::canonical_combine(parts),
         Meeting::Running => running_sum(parts),
     }
 }

@@ -13,7 +13,7 @@ use Rattle.layouts.specs.Formats.{bytes32, bytesK}
 use Rattle.layouts.specs.Weights.{weightAt, valuesOf}
 use Rattle.layouts.specs.declared.format.Format.{Format}
 use Rattle.layouts.specs.declared.format.Format.the-variants.{Of32, OfK}
-use Rattle.sums.specs.Lanes.{products}
+use Rattle.sums_lanes.specs.Lanes.{products}
 use Rattle.sums.specs.Rows.{rowSum}
 use Rattle.layers_shape.specs.declared.Shape.{Shape}
 use Rattle.layers_shape.specs.Shapes.{oversize, readingRow, outputs}

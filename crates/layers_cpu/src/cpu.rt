@@ -13,7 +13,7 @@ ghost use Prim.Native.Nat.{_*_, _≤_, _<_};
 ghost use lib.ListN.{length};
 ghost use Rattle.refusals.specs.Said.{done, outcomeSays};
 ghost use Rattle.refusals.specs.Sizes.{mostIn, mostOut, mostBatch};
-ghost use Rattle.sums.specs.Lanes.{products};
+ghost use Rattle.sums_lanes.specs.Lanes.{products};
 ghost use Rattle.sums.specs.Rows.{rowSum};
 ghost use Rattle.layers_shape.specs.Shapes.{shape, readingRow};
 ghost use Rattle.layers_cpu.specs.Says.{cpuNo, cpuSays};

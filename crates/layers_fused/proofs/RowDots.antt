@@ -11,7 +11,7 @@ use Rattle.refusals.specs.Said.{value}
 use Rattle.refusals.specs.Sizes.{mostIn}
 use Rattle.memory.specs.Lists.{table}
 use Rattle.layouts.specs.declared.format.FormatK.{FormatK}
-use Rattle.sums.specs.Tree.{tree, met}
+use Rattle.sums_tree.specs.Tree.{tree, met}
 use Rattle.sums.specs.Rows.{rowSum}
 use Rattle.dots_fused_chunk.specs.Terms.{terms}
 use Rattle.dots_fused.specs.Says.{fusedSays}

@@ -15,7 +15,7 @@ use Rattle.memory.specs.Lists.{table, part}
 use Rattle.memory.proofs.Filled.{length-table, getD-table}
 use Rattle.memory.proofs.Parts.{within}
 use Rattle.layouts.specs.declared.format.FormatK.the-variants.{Q4K}
-use Rattle.sums.specs.Tree.{tree, met}
+use Rattle.sums_tree.specs.Tree.{tree, met}
 use Rattle.dots_integer.specs.Rows.{blocksIn, blockAt, rowDot, integerSays}
 use Rattle.layers_shape.specs.declared.Shape.{Shape}
 use Rattle.layers_shape.specs.Shapes.{rowBytes, layerNo, readingRow, weightRow, outputs}

@@ -12,7 +12,7 @@ use Rattle.readings.specs.Readings.{largest, quantQ8}
 use Rattle.layouts.specs.K.{scaleQ4K, minimumQ4K, quantQ4K}
 use Rattle.layouts.specs.declared.format.FormatK.the-variants.{Q4K}
 use Rattle.memory.specs.Lists.{table}
-use Rattle.sums.specs.Tree.{tree, met, pairUp}
+use Rattle.sums_tree.specs.Tree.{tree, met, pairUp}
 use Rattle.dots_activation.specs.Whole.{sumℤ}
 use Rattle.dots_activation.specs.Blocks.{blockOf}
 use Rattle.dots_integer.specs.Dots.{blockDot}

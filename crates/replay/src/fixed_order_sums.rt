@@ -18,7 +18,7 @@ enum OfRows {
 
 fn answer(call: OfRows, x: &[f32], w: &[f32], n: usize) -> Answer {
     match call {
-        OfRows::Chunk => sums::canonical_chunk(x, w),
+        OfRows::Chunk => sums_lanes::canonical_chunk(x, w),
         OfRows::Dot => sums::canonical_dot_pub(x, w, n),
         OfRows::Sum => sums::canonical_sum_pub(x, n),
     }
@@ -74,7 +74,7 @@ fn judge_rows(call: OfRows, payload: &[u8]) -> Finding {
 // beside what they left.
 fn judge_list(bytes: &[u8], list: &mut [f32], sum: f32, left: &[u8]) -> Finding {
     read_floats(bytes, list);
-    let ours = sums::canonical_combine(list);
+    let ours = sums_tree::canonical_combine(list);
     Finding::of_same(same_bits(ours, sum) && same_floats(left, list))
 }
 

@@ -10,7 +10,7 @@ use Rattle.refusals.specs.Said.{Said}
 use Rattle.refusals.specs.Refusals.{carriedOut}
 use Rattle.memory.specs.Lists.{table, filled}
 use Rattle.numbers.specs.Steps.{nought}
-use Rattle.sums.specs.Tree.{tree}
+use Rattle.sums_tree.specs.Tree.{tree}
 use Rattle.stepped_shape.specs.declared.shape.Layer.{Layer}
 use Rattle.stepped_shape.specs.Layer.{chunks, pieces, place, openOf}
 use Rattle.stepped_shape.specs.Refusals.{openNo, workNo, closeNo}

@@ -28,7 +28,7 @@ fn meet(l: Layer, row: usize, slots: &[f32]) -> f32
         parts[c] = slots[at + c];
         c += 1;
     }
-    sums::canonical_combine(&mut parts[..n])
+    sums_tree::canonical_combine(&mut parts[..n])
 }
 
 // Writes the row's output; closing again is allowed. Refuses 12, 6, 2, 5, 8 and 10, in this order.

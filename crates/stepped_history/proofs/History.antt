@@ -16,7 +16,7 @@ use Rattle.memory.proofs.Filled.{length-table, getD-table, table-ext, length-fi
 use Rattle.layouts.specs.Formats.{formatOf}
 use Rattle.layouts.specs.Weights.{weightAt}
 use Rattle.layouts.specs.declared.format.Format.the-variants.{OfK}
-use Rattle.sums.specs.Tree.{tree}
+use Rattle.sums_tree.specs.Tree.{tree}
 use Rattle.sums.specs.Rows.{rowSum}
 use Rattle.dots_fused.proofs.Decoded.{row-decoded}
 use Rattle.stepped_shape.specs.declared.shape.Layer.{Layer}

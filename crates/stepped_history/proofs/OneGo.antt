@@ -12,9 +12,9 @@ use Rattle.memory.specs.Lists.{table}
 use Rattle.memory.proofs.Filled.{length-table}
 use Rattle.numbers.specs.Steps.{nought}
 use Rattle.layouts.specs.Formats.{bytesK, formatOf}
-use Rattle.sums.specs.Tree.{tree}
+use Rattle.sums_tree.specs.Tree.{tree}
 use Rattle.sums.specs.Says.{dotSays}
-use Rattle.sums.proofs.TreeLaws.{tree-none}
+use Rattle.sums_tree.proofs.TreeLaws.{tree-none}
 use Rattle.sums.proofs.RowLaws.{dot-answers}
 use Rattle.dots_fused.specs.Says.{fusedSays}
 use Rattle.dots_fused.proofs.Decoded.{dot-of-weights}

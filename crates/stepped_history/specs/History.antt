@@ -10,7 +10,7 @@ use Rattle.memory.specs.Lists.{table}
 use Rattle.layouts.specs.Formats.{formatOf}
 use Rattle.layouts.specs.Weights.{weightAt}
 use Rattle.layouts.specs.declared.format.Format.the-variants.{OfK}
-use Rattle.sums.specs.Lanes.{products}
+use Rattle.sums_lanes.specs.Lanes.{products}
 use Rattle.sums.specs.Rows.{rowSum}
 use Rattle.stepped_shape.specs.declared.shape.Layer.{Layer}
 use Rattle.stepped_shape.specs.Layer.{pieces, rowOf, openOf}

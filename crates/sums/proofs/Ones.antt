@@ -16,7 +16,7 @@ use lib.Ieee.Digits.{back}
 use lib.Ieee.Fits.{reach, and-l, and-r, down-pos, round-fits}
 use lib.Ieee.Exact.{HasValue, round-exact}
 use Rattle.halves.proofs.SameValue.{same-value}
-use Rattle.sums.specs.Lanes.{products, values}
+use Rattle.sums_lanes.specs.Lanes.{products, values}
 use Rattle.sums.specs.Rows.{rowSum}
 use Rattle.sums.specs.Says.{dotSays, sumSays}
 use Rattle.sums.proofs.RowLaws.{row-cong}

@@ -12,11 +12,11 @@ use Rattle.refusals.specs.Said.{value}
 use Rattle.refusals.specs.Sizes.{mostIn}
 use Rattle.memory.specs.Lists.{table, filled}
 use Rattle.memory.proofs.Filled.{length-table, table-ext, Filling, filling-start, filling-more}
-use Rattle.sums.specs.Tree.{tree, met, combined}
-use Rattle.sums.specs.Lanes.{products, lanes, chunkSum}
+use Rattle.sums_tree.specs.Tree.{tree, met, combined}
+use Rattle.sums_lanes.specs.Lanes.{products, lanes, chunkSum}
 use Rattle.sums.specs.Rows.{chunksIn, chunkLength, chunkAt, rowSum}
 use Rattle.sums.specs.Says.{dotSays}
-use Rattle.sums.proofs.LaneLaws.{lanes-cong}
+use Rattle.sums_lanes.proofs.LaneLaws.{lanes-cong}
 
 -- a chunk sum depends on the terms below n alone
 pub chunk-cong : (p q : ℕ → Float) (n : ℕ) → ((i : ℕ) → i < n → p i ≡ q i) → chunkSum p n ≡ chunkSum q n

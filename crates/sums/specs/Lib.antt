@@ -1,5 +1,3 @@
--- Document 01's "Fixed-order sums", and what the calls over them say.
-pub mod Tree
-pub mod Lanes
+-- Document 01's "Fixed-order sums": the chunks of a row, and what the calls over rows say.
 pub mod Rows
 pub mod Says

@@ -2,8 +2,8 @@
 use Prim.Native.Nat.{ℕ, _+_, _-_, _*_, _/_, min}
 use lib.Ieee.{Float}
 use Rattle.memory.specs.Lists.{table}
-use Rattle.sums.specs.Tree.{tree}
-use Rattle.sums.specs.Lanes.{chunkSum}
+use Rattle.sums_tree.specs.Tree.{tree}
+use Rattle.sums_lanes.specs.Lanes.{chunkSum}
 
 -- how many chunks n places make: the last may be shorter
 abbrev pub chunksIn : ℕ → ℕ

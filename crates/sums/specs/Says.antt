@@ -6,17 +6,10 @@ use lib.Dec.{ltb, eqb}
 use lib.ListN.{length}
 use lib.Ieee.{Float}
 use Rattle.refusals.specs.Said.{Said, value, refused}
-use Rattle.refusals.specs.Sizes.{mostIn, mostFloats}
+use Rattle.refusals.specs.Sizes.{mostIn}
 use Rattle.numbers.specs.Steps.{nought}
-use Rattle.sums.specs.Lanes.{products, values, chunkSum}
+use Rattle.sums_lanes.specs.Lanes.{products, values}
 use Rattle.sums.specs.Rows.{rowSum}
-
--- `canonical_chunk`: over a size; fewer weights than needed; and otherwise the sum of one chunk, all of x
-unfoldable pub chunkSays : List Float → List Float → Said
-chunkSays x w =
-    cond (ltb mostFloats (length x)) (refused 6)
-    (cond (ltb (length w) (length x)) (refused 3)
-    (value (chunkSum (products x w) (length x))))
 
 -- `canonical_dot_pub`: over a size; n = 0 answers +0.0; fewer weights than needed; fewer readings; and otherwise the
 -- row's sum

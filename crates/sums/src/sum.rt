@@ -4,16 +4,16 @@ ghost use Prim.Native.Nat.{_≤_};
 ghost use lib.ListN.{length};
 ghost use Rattle.refusals.specs.Said.{saidBy};
 ghost use Rattle.refusals.specs.Sizes.{mostIn};
-ghost use Rattle.sums.specs.Lanes.{values};
+ghost use Rattle.sums_lanes.specs.Lanes.{values};
 ghost use Rattle.sums.specs.Rows.{rowSum};
 ghost use Rattle.sums.specs.Says.{sumSays};
 use crate::chunks::CHUNK;
 use crate::chunks::MOST_CHUNKS;
 use crate::chunks::chunk_end;
 use crate::chunks::chunks_in;
-use crate::lanes::chunk_total;
-use crate::tree::canonical_combine;
 use refusals::Answer;
+use sums_lanes::chunk_total;
+use sums_tree::canonical_combine;
 
 // The sum of the first n places.
 fn row_total(x: &[f32], n: usize) -> f32

@@ -2,7 +2,7 @@
 use mathlib.Core.Path.{sym, ap, _∙_}
 use Rattle.layouts.specs.Formats.{bytesK}
 use Rattle.layouts.specs.declared.format.FormatK.{FormatK}
-use Rattle.sums.specs.Lanes.{lanesFrom}
+use Rattle.sums_lanes.specs.Lanes.{lanesFrom}
 use Rattle.dots_fused_chunk.specs.Terms.{terms}
 use borrow.Author.Needs.{needs}
 use Rattle.dots_fused_chunk.proofs.chunk.add_block.Statement.{statement}

@@ -6,7 +6,7 @@ use lib.ListN.{length, getD}
 use lib.Ieee.{nan, binary32, mul}
 use Rattle.memory.proofs.Filled.{getD-table}
 use Rattle.layouts.specs.K.{valueK}
-use Rattle.sums.proofs.LaneLaws.{lanes-cong}
+use Rattle.sums_lanes.proofs.LaneLaws.{lanes-cong}
 use Rattle.dots_fused_chunk.proofs.Rows.{one-block}
 use borrow.Author.Needs.{needs}
 use Rattle.dots_fused_chunk.proofs.chunk.add_short.Statement.{statement}

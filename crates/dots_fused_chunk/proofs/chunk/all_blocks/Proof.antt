@@ -2,7 +2,7 @@
 use mathlib.Core.Path.{_≡_, ap, _∙_}
 use Prim.Native.Nat.{_+_, _-_, _*_, _/_, _≤_}
 use lib.ListN.{length}
-use Rattle.sums.specs.Lanes.{lanes}
+use Rattle.sums_lanes.specs.Lanes.{lanes}
 use Rattle.dots_fused_chunk.specs.Terms.{terms}
 use Rattle.dots_fused_chunk.proofs.Rows.{block-room, block-terms}
 use Rattle.dots_fused_chunk.proofs.Runs.{run-more}

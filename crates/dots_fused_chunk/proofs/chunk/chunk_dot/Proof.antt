@@ -6,8 +6,8 @@ use lib.ListN.{length}
 use Rattle.memory.proofs.Filled.{part-length}
 use Rattle.layouts.specs.Weights.{valuesOf}
 use Rattle.layouts.specs.declared.format.Format.the-variants.{OfK}
-use Rattle.sums.specs.Tree.{tree}
-use Rattle.sums.specs.Lanes.{chunkSum}
+use Rattle.sums_tree.specs.Tree.{tree}
+use Rattle.sums_lanes.specs.Lanes.{chunkSum}
 use Rattle.sums.proofs.RowLaws.{chunk-part}
 use Rattle.dots_fused_chunk.specs.Terms.{terms}
 use Rattle.dots_fused_chunk.proofs.Rows.{rest-room, rest-terms}

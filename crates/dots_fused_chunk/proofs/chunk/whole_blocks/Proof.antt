@@ -1,8 +1,8 @@
 -- `chunk::whole_blocks` meets its contract: in turn b the terms of block b are added. Assumes nothing.
 use Prim.Native.Nat.{_+_, _-_, _*_, _/_, _≤_}
 use lib.ListN.{length}
-use Rattle.sums.specs.Lanes.{lanes}
-use Rattle.sums.proofs.LaneLaws.{lanes-none}
+use Rattle.sums_lanes.specs.Lanes.{lanes}
+use Rattle.sums_lanes.proofs.LaneLaws.{lanes-none}
 use Rattle.dots_fused_chunk.specs.Terms.{terms}
 use Rattle.dots_fused_chunk.proofs.Rows.{block-room, block-terms}
 use Rattle.dots_fused_chunk.proofs.Runs.{Grown, grown-more, grown-done}

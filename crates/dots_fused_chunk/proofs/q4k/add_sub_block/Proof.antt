@@ -1,6 +1,6 @@
 -- `q4k::add_sub_block` meets its contract: in turn e the eight terms from 8 e on are added. Assumes nothing.
 use Prim.Native.Nat.{_+_, _-_, _*_}
-use Rattle.sums.proofs.LaneLaws.{lanes-none}
+use Rattle.sums_lanes.proofs.LaneLaws.{lanes-none}
 use Rattle.dots_fused_chunk.specs.Terms.{subBlockTerms}
 use Rattle.dots_fused_chunk.proofs.Runs.{Grown, grown-more, grown-done, sub-block-part}
 use native.Mathlib.Omega.{arith}

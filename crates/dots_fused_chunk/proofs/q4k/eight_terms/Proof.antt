@@ -1,6 +1,6 @@
 -- `q4k::eight_terms` meets its contract. Assumes nothing.
 use Prim.Native.Nat.{_-_}
-use Rattle.sums.proofs.LaneLaws.{Adding, adding-start, adding-more, adding-done}
+use Rattle.sums_lanes.proofs.LaneLaws.{Adding, adding-start, adding-more, adding-done}
 use Rattle.dots_fused_chunk.specs.Terms.{subBlockTerms}
 use native.Mathlib.Omega.{arith}
 use borrow.Author.Needs.{needs}

@@ -1,6 +1,6 @@
 -- `q6k::add_q6k` meets its contract: in turn e the terms of run e are added. Assumes nothing.
 use Prim.Native.Nat.{_+_, _-_, _*_}
-use Rattle.sums.proofs.LaneLaws.{lanes-none}
+use Rattle.sums_lanes.proofs.LaneLaws.{lanes-none}
 use Rattle.layouts.specs.declared.format.FormatK.the-variants.{Q6K}
 use Rattle.dots_fused_chunk.specs.Terms.{terms}
 use Rattle.dots_fused_chunk.proofs.Runs.{Grown, grown-more, grown-done, q6k-terms}

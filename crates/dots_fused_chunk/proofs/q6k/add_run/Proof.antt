@@ -1,6 +1,6 @@
 -- `q6k::add_run` meets its contract: the second eight terms after the first. Assumes nothing.
 use mathlib.Core.Path.{refl}
-use Rattle.sums.proofs.LaneLaws.{lanes-none}
+use Rattle.sums_lanes.proofs.LaneLaws.{lanes-none}
 use Rattle.dots_fused_chunk.specs.Terms.{runTerms}
 use Rattle.dots_fused_chunk.proofs.Runs.{run-more, run-part}
 use borrow.Author.Needs.{needs}

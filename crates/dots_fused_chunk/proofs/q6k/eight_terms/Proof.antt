@@ -5,7 +5,7 @@ use lib.ListN.{getD, set}
 use lib.Ieee.{Float, nan, binary32, add, mul, ofInt}
 use mir.Syntax.{w8}
 use Rattle.numbers.proofs.Signed.{read-is}
-use Rattle.sums.proofs.LaneLaws.{Adding, adding-start, adding-more, adding-done}
+use Rattle.sums_lanes.proofs.LaneLaws.{Adding, adding-start, adding-more, adding-done}
 use Rattle.dots_fused_chunk.specs.Terms.{runTerms}
 use native.Mathlib.Omega.{arith}
 use borrow.Author.Needs.{needs}

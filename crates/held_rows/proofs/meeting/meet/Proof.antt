@@ -3,7 +3,7 @@ use mathlib.Core.Path.{sym, ap, _∙_}
 use mathlib.Core.List.{List}
 use lib.ListN.{length}
 use lib.Ieee.{Float}
-use Rattle.sums.specs.Lanes.{values}
+use Rattle.sums_lanes.specs.Lanes.{values}
 use Rattle.held_rows.specs.declared.meeting.Meeting.{Meeting}
 use Rattle.held_rows.specs.Meets.{meets}
 use Rattle.held_rows.proofs.Meets.{tree-meets, running-meets}

@@ -3,7 +3,7 @@ use mathlib.Core.Path.{_≡_, refl, ap, _∙_}
 use Prim.Native.Nat.{_-_, _≤_}
 use lib.ListN.{length, getD}
 use lib.Ieee.{Float, nan, binary32, add}
-use Rattle.sums.specs.Lanes.{values}
+use Rattle.sums_lanes.specs.Lanes.{values}
 use Rattle.held_rows.specs.Meets.{running}
 use Rattle.held_rows.proofs.Meets.{running-none, running-more}
 use native.Mathlib.Omega.{arith}

@@ -16,7 +16,7 @@ use Rattle.memory.specs.Lists.{table, filled}
 use Rattle.memory.proofs.Filled.{length-table, filled-none}
 use Rattle.memory.proofs.Parts.{within}
 use Rattle.layouts.specs.Weights.{valuesOf}
-use Rattle.sums.specs.Lanes.{products}
+use Rattle.sums_lanes.specs.Lanes.{products}
 use Rattle.sums.specs.Rows.{rowSum}
 use Rattle.layers_shape.specs.Shapes.{readingRow, outputs}
 use Rattle.layers_shape.proofs.Fits.{product-small}

@@ -12,7 +12,7 @@ use Rattle.refusals.proofs.Laws.{value-of, no-refusal}
 use Rattle.memory.specs.Lists.{part}
 use Rattle.memory.proofs.Filled.{part-length}
 use Rattle.memory.proofs.Parts.{within}
-use Rattle.sums.specs.Lanes.{products}
+use Rattle.sums_lanes.specs.Lanes.{products}
 use Rattle.sums.specs.Rows.{rowSum}
 use Rattle.sums.proofs.RowLaws.{dot-answers}
 use Rattle.layers_cpu.specs.Columns.{column}

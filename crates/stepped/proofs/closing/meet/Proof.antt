@@ -10,7 +10,7 @@ use lib.Ieee.{Float, nan}
 use denote.Ref.{now}
 use Rattle.memory.specs.Lists.{table}
 use Rattle.memory.proofs.Filled.{Filling, filling-start, filling-more}
-use Rattle.sums.specs.Tree.{pairUp, met, tree}
+use Rattle.sums_tree.specs.Tree.{pairUp, met, tree}
 use Rattle.stepped_shape.specs.Layer.{chunks, pieces, place}
 use Rattle.stepped_shape.proofs.Shapes.{row-within, few-chunks, few-pieces}
 use Rattle.stepped.specs.Says.{rowMet}

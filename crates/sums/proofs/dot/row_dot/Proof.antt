@@ -3,9 +3,9 @@ use mathlib.Core.Path.{refl, sym, _∙_}
 use Prim.Native.Nat.{_-_, _*_}
 use native.Mathlib.Omega.{arith}
 use lib.Seq.{length-take-le}
-use Rattle.sums.specs.Lanes.{products}
+use Rattle.sums_lanes.specs.Lanes.{products}
 use Rattle.sums.specs.Rows.{chunksIn}
-use Rattle.sums.proofs.LaneLaws.{products-part}
+use Rattle.sums_lanes.proofs.LaneLaws.{products-part}
 use Rattle.sums.proofs.RowLaws.{chunk-part, Chunking, chunking-start, chunking-more, chunking-met}
 use Rattle.sums.proofs.dot.row_dot.Statement.{statement}
 use Rattle.sums.proofs.dot.row_dot.Tie as tie

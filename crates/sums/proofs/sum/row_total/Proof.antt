@@ -3,9 +3,9 @@ use mathlib.Core.Path.{refl, sym, _∙_}
 use Prim.Native.Nat.{_-_, _*_}
 use native.Mathlib.Omega.{arith}
 use lib.Seq.{length-take-le}
-use Rattle.sums.specs.Lanes.{values}
+use Rattle.sums_lanes.specs.Lanes.{values}
 use Rattle.sums.specs.Rows.{chunksIn}
-use Rattle.sums.proofs.LaneLaws.{values-part}
+use Rattle.sums_lanes.proofs.LaneLaws.{values-part}
 use Rattle.sums.proofs.RowLaws.{chunk-part, Chunking, chunking-start, chunking-more, chunking-met}
 use Rattle.sums.proofs.sum.row_total.Statement.{statement}
 use Rattle.sums.proofs.sum.row_total.Tie as tie

@@ -1,0 +1,3 @@
+-- Laws of the lanes, and one answer for `canonical_chunk`.
+pub mod LaneLaws
+pub mod Unique

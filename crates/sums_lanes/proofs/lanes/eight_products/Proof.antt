@@ -1,0 +1,79 @@
+-- `lanes::eight_products` meets its contract. Assumes nothing.
+use Prim.Native.Nat.{_-_}
+use native.Mathlib.Omega.{arith}
+use lib.ListN.{length}
+use Rattle.sums_lanes.specs.Lanes.{products}
+use Rattle.sums_lanes.proofs.LaneLaws.{Adding, adding-start, adding-more, adding-done}
+use Rattle.sums_lanes.proofs.lanes.eight_products.Statement.{statement}
+use Rattle.sums_lanes.proofs.lanes.eight_products.Tie as tie
+
+abbrev Inv-loop : tie.InvT-loop
+Inv-loop x w out₀ i₀ out i = Adding out₀ (products x w) (length x) out i
+
+abbrev μ-loop : tie.MeasureT-loop
+μ-loop x w out₀ i₀ out i = length x - i
+
+loop-holds : tie.Need-loop-holds Inv-loop μ-loop
+loop-holds c = adding-start (c .args .l) (products (c .args .x .now) (c .args .w .now)) (length (c .args .x .now)) (omega arith)
+
+mul-out : tie.Need-mul-out Inv-loop μ-loop
+mul-out c = omega arith
+
+array-read-out : tie.Need-array-read-out Inv-loop μ-loop
+array-read-out c = omega arith
+
+mul-out-2 : tie.Need-mul-out-2 Inv-loop μ-loop
+mul-out-2 c = omega arith
+
+shared-slice-read-out : tie.Need-shared-slice-read-out Inv-loop μ-loop
+shared-slice-read-out c = omega arith
+
+mul-out-3 : tie.Need-mul-out-3 Inv-loop μ-loop
+mul-out-3 c = omega arith
+
+shared-slice-read-out-2 : tie.Need-shared-slice-read-out-2 Inv-loop μ-loop
+shared-slice-read-out-2 c = omega arith
+
+mul-out-4 : tie.Need-mul-out-4 Inv-loop μ-loop
+mul-out-4 c = omega arith
+
+array-write-out : tie.Need-array-write-out Inv-loop μ-loop
+array-write-out c = omega arith
+
+add-i : tie.Need-add-i Inv-loop μ-loop
+add-i c = omega arith
+
+loop-less : tie.Need-loop-less Inv-loop μ-loop
+loop-less c = omega arith
+
+loop-again : tie.Need-loop-again Inv-loop μ-loop
+loop-again c =
+    let b = c .before .before .before in
+    let a = b .before .args in
+    adding-more (a .l) (products (a .x .now) (a .w .now)) (length (a .x .now)) (b .loop .out) (b .loop .i) (omega arith) (omega arith) (b .loop .inv)
+
+returns : tie.Need-returns Inv-loop μ-loop
+returns c =
+    let b = c .before in
+    let a = b .before .args in
+    adding-done (a .l) (products (a .x .now) (a .w .now)) (length (a .x .now)) (b .loop .out) (b .loop .i) (omega arith) (b .loop .inv)
+
+pub eight-products-spec : {M : Type 1} → statement M
+eight-products-spec =
+    tie.close
+    (tie.spec
+    Inv-loop
+    μ-loop
+    loop-holds
+    mul-out
+    array-read-out
+    mul-out-2
+    shared-slice-read-out
+    mul-out-3
+    shared-slice-read-out-2
+    mul-out-4
+    array-write-out
+    add-i
+    loop-less
+    loop-again
+    returns)
