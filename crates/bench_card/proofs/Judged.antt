@@ -22,7 +22,7 @@ use Rattle.dots_activation.specs.Whole.{elem, every}
 use Rattle.dots_activation.specs.Blocks.{quantized}
 use Rattle.dots_activation.specs.declared.block.Quantized.{Quantized}
 use Rattle.dots_activation.proofs.Tests.{every-all}
-use Rattle.stored_answers.specs.Same.{saysNumber, sameBytes}
+use Rattle.replay_answers.specs.Same.{saysNumber, sameBytes}
 use Rattle.bench_card.specs.Card.{Row, row, widen, floats, valueOf, writtenBy, firstQuants, answer, card, rowAt, sameNumbers, answered}
 use Rattle.bench_card.specs.Rows.{meant, judged}
 use Rattle.bench_card.specs.declared.table.Row.the-variants.{Packs, Sums, Quantizes}

@@ -1,11 +1,11 @@
 // The cases that are run only. Readings are small whole numbers and weights are ones, so that every sum is exact, in
 // whatever order it is added up.
 use layouts::FormatK;
-use stored_answers::same_answer;
+use replay_answers::same_answer;
 ghost use mathlib.Core.Path.{_≡_};
 ghost use Rattle.sums.specs.Says.{dotSays};
 ghost use Rattle.dots_fused.specs.Says.{fusedSays};
-ghost use Rattle.stored_answers.specs.Same.{sameAnswer};
+ghost use Rattle.replay_answers.specs.Same.{sameAnswer};
 ghost use Rattle.bench_card.specs.RunOnly.{ones, blockOfOnes};
 
 // The places of a row at most: one more than a chunk has.

@@ -1,14 +1,14 @@
 // The calls that are replayed, by their tags. A call's tag is its place in the oracle's list of calls.
-use crate::activation_blocks::judge_activation_block;
-use crate::binary16::judge_binary16;
-use crate::block_decoders::judge_block_decoder;
-use crate::block_quantizers::judge_block_quantizer;
-use crate::fixed_order_sums::judge_fixed_order_sum;
 use crate::report::print_name;
-use crate::row_dots::judge_row_dot;
-use replayed_layers::judge_history;
-use replayed_layers::judge_layer;
-use stored_answers::Finding;
+use replay_answers::Finding;
+use replay_calls::judge_activation_block;
+use replay_calls::judge_binary16;
+use replay_calls::judge_block_decoder;
+use replay_calls::judge_block_quantizer;
+use replay_calls::judge_fixed_order_sum;
+use replay_calls::judge_row_dot;
+use replay_layers::judge_history;
+use replay_layers::judge_layer;
 
 // The tag of a record whose payload is the name of the call before it.
 const NAME: u8 = 255;

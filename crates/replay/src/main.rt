@@ -9,18 +9,11 @@
 //
 // For each call a line says how many answers were replayed, and how many of ours differ: neither the same bits nor both
 // NaN. Where the sample cannot be read on, a last line says why, and at which byte.
-mod activation_blocks;
-mod binary16;
-mod block_decoders;
-mod block_quantizers;
-mod blocks;
 mod calls;
-mod fixed_order_sums;
 mod records;
 mod report;
-mod row_dots;
 
-use stored_answers::Finding;
+use replay_answers::Finding;
 
 // How far the replay is: whether it goes on, the byte at which the next record begins, and of the call whose records
 // are read the answers so far and how many of them differ.

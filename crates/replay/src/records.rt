@@ -1,7 +1,7 @@
 // The sample's records, read one after the other and judged.
 use crate::calls::judge;
 use libc::STDIN_FILENO;
-use stored_answers::Finding;
+use replay_answers::Finding;
 
 pub struct Record {
     pub tag: u8,

@@ -1,6 +1,6 @@
 // What the replay prints.
 use libc::STDOUT_FILENO;
-use stored_answers::Finding;
+use replay_answers::Finding;
 
 // The beginning of a call's line: its name.
 pub fn print_name(name: &[u8]) {

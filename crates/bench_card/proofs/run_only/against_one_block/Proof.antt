@@ -2,7 +2,7 @@
 use borrow.Author.Needs.{needs}
 use mathlib.Core.Path.{ap, _∙_}
 use Rattle.refusals.specs.Said.{Said}
-use Rattle.stored_answers.specs.Same.{sameAnswer}
+use Rattle.replay_answers.specs.Same.{sameAnswer}
 use Rattle.bench_card.specs.RunOnly.{blockOfOnes}
 use Rattle.bench_card.proofs.run_only.against_one_block.Statement.{statement}
 use Rattle.bench_card.proofs.run_only.against_one_block.Tie as tie

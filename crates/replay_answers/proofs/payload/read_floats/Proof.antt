@@ -1,0 +1,72 @@
+-- `payload::read_floats` meets its contract: it fills its places from the front. Assumes nothing.
+use mathlib.Core.Path.{refl, ap, _∙_}
+use Prim.Native.Nat.{_-_}
+use native.Mathlib.Omega.{arith}
+use lib.ListN.{length, length-set}
+use lib.Ieee.{binary32, ofBits}
+use Rattle.memory.proofs.Filled.{Filling, filling-start, filling-more, filling-done}
+use Rattle.replay_answers.specs.Payload.{floatAt}
+use borrow.Author.Needs.{needs}
+use Rattle.replay_answers.proofs.payload.read_floats.Statement.{statement}
+use Rattle.replay_answers.proofs.payload.read_floats.Tie as tie
+
+abbrev Inv-loop : tie.InvT-loop
+Inv-loop payload out₀ i₀ out i = Filling (floatAt payload) out₀ (length out₀) out i
+
+abbrev μ-loop : tie.MeasureT-loop
+μ-loop payload out₀ i₀ out i = length out - i
+
+loop-holds : tie.Need-loop-holds Inv-loop μ-loop
+loop-holds c = filling-start _ _ _ refl
+
+mul-u32-at : tie.Need-mul-u32-at Inv-loop μ-loop
+mul-u32-at c = search needs
+
+u32-at-requires : tie.Need-u32-at-requires Inv-loop μ-loop
+u32-at-requires c κs = search needs
+
+of-bits-requires : tie.Need-of-bits-requires Inv-loop μ-loop
+of-bits-requires c κs = search needs
+
+mul-out : tie.Need-mul-out Inv-loop μ-loop
+mul-out c = search needs
+
+slice-write-out : tie.Need-slice-write-out Inv-loop μ-loop
+slice-write-out c = search needs
+
+add-i : tie.Need-add-i Inv-loop μ-loop
+add-i c = search needs
+
+loop-less : tie.Need-loop-less Inv-loop μ-loop
+loop-less c = simp length-set (omega arith)
+
+loop-again : tie.Need-loop-again Inv-loop μ-loop
+unfolding floatAt
+loop-again c =
+    let t = c .before .before .before in
+    filling-more _ _ _ _ _ _ refl (t .loop .inv) (omega arith)
+    (c .of-bits .ensures ∙ ap (ofBits binary32) (c .before .u32-at .ensures))
+
+same-length : tie.Need-same-length Inv-loop μ-loop
+same-length c = search needs
+
+returns : tie.Need-returns Inv-loop μ-loop
+returns c = filling-done _ _ _ _ _ refl (c .before .loop .inv) (omega arith)
+
+pub read-floats-spec : {M : Type 1} → statement M
+read-floats-spec =
+    tie.close
+    (tie.spec
+    Inv-loop
+    μ-loop
+    loop-holds
+    mul-u32-at
+    u32-at-requires
+    of-bits-requires
+    mul-out
+    slice-write-out
+    add-i
+    loop-less
+    loop-again
+    same-length
+    returns)

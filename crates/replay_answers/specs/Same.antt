@@ -1,0 +1,49 @@
+-- When a stored answer is ours. Definitions only.
+use Prim.Native.Nat.{ℕ}
+use mathlib.Core.Bool.{Bool, true, false, cond}
+use mathlib.Core.List.{List}
+use lib.Dec.{ltb, eqb}
+use lib.ListN.{length, getD}
+use lib.Ieee.{Float, nan, binary32, toBits}
+use Rattle.refusals.specs.Said.{Said, value, done, refused}
+use Rattle.dots_activation.specs.Whole.{every}
+use Rattle.replay_answers.specs.Payload.{floatAt}
+use Rattle.replay_answers.specs.declared.findings.Finding.{Finding}
+use Rattle.replay_answers.specs.declared.findings.Finding.the-variants.{Same, Differs}
+
+-- two floats are the same bits, or both NaN: every NaN has the bits 7FC00000
+abbrev pub sameBits : Float → Float → Bool
+sameBits a b = eqb (toBits binary32 a) (toBits binary32 b)
+
+-- float i of a payload is float i of a list
+abbrev pub sameFloatAt : List ℕ → List Float → ℕ → Bool
+sameFloatAt p fs i = sameBits (getD fs i nan) (floatAt p i)
+
+-- the payload's first floats are these
+unfoldable pub sameFloats : List ℕ → List Float → Bool
+sameFloats p fs = every (sameFloatAt p fs) (length fs)
+
+-- byte i of a payload is byte i of a list
+abbrev pub sameByteAt : List ℕ → List ℕ → ℕ → Bool
+sameByteAt p bs i = eqb (getD p i 0) (getD bs i 0)
+
+-- the payload's first bytes are these
+unfoldable pub sameBytes : List ℕ → List ℕ → Bool
+sameBytes p bs = cond (ltb (length p) (length bs)) false (every (sameByteAt p bs) (length bs))
+
+-- a call that fills lent memory says this number: that it is done is 0
+abbrev pub saysNumber : Said → ℕ → Bool
+saysNumber (value v) number = false
+saysNumber done number = eqb number 0
+saysNumber (refused said) number = eqb said number
+
+-- a dot or a sum says this number, or where the number is 0 this value
+abbrev pub sameAnswer : Said → ℕ → Float → Bool
+sameAnswer (value v) number theirs = cond (eqb number 0) (sameBits v theirs) false
+sameAnswer done number theirs = false
+sameAnswer (refused said) number theirs = eqb said number
+
+-- what comes of an answer
+abbrev pub found : Bool → Finding
+found true = Same
+found false = Differs

@@ -1,0 +1,67 @@
+-- `blocks::same_quants` meets its contract: every quant passed is the same. Assumes nothing.
+use mathlib.Core.Path.{_≡_, sym, ap, _∙_}
+use mathlib.Core.Bool.{true}
+use Prim.Native.Nat.{_-_, _≤_}
+use mir.Syntax.{w8}
+use mir.Val.{ofZ, toZ}
+use Rattle.numbers.proofs.Signed.{read-is}
+use Rattle.dots_activation.specs.Whole.{elem, eqZ, every}
+use Rattle.dots_activation.proofs.Tests.{eqZ-same, eqZ-not, every-none, every-more, every-not}
+use native.Mathlib.Omega.{arith}
+use Rattle.replay_calls.proofs.blocks.same_quants.Statement.{statement}
+use Rattle.replay_calls.proofs.blocks.same_quants.Tie as tie
+
+abbrev Inv-loop : tie.InvT-loop
+Inv-loop a b i₀ i = (i ≤ 256) × (every (λ k. eqZ (elem a k) (elem b k)) i ≡ true)
+
+abbrev μ-loop : tie.MeasureT-loop
+μ-loop a b i₀ i = 256 - i
+
+loop-holds : tie.Need-loop-holds Inv-loop μ-loop
+loop-holds c = (omega arith, every-none _)
+
+element-copy-out-if1 : tie.Need-element-copy-out-if1 Inv-loop μ-loop
+element-copy-out-if1 c = omega arith
+
+element-copy-out-if1-2 : tie.Need-element-copy-out-if1-2 Inv-loop μ-loop
+element-copy-out-if1-2 c = omega arith
+
+returns : tie.Need-returns Inv-loop μ-loop
+returns c =
+    let t = c .before .before .before .before in
+    let a = t .before .args in
+    sym (every-not _ 256 (t .loop .i) (omega arith) (eqZ-not (elem (a .a .now) (t .loop .i)) (elem (a .b .now) (t .loop .i)) (λ e. c .if1 .taken (ap (ofZ w8) e))))
+
+add-i : tie.Need-add-i Inv-loop μ-loop
+add-i c = omega arith
+
+loop-less : tie.Need-loop-less Inv-loop μ-loop
+loop-less c = omega arith
+
+loop-again : tie.Need-loop-again Inv-loop μ-loop
+loop-again c =
+    let t = c .before .before .before .before in
+    let a = t .before .args in
+    let e : elem (a .a .now) (t .loop .i) ≡ elem (a .b .now) (t .loop .i) = sym (read-is w8 _ (c .before .before .if12 .given)) ∙ ap (toZ w8) (c .if1 .left) ∙ read-is w8 _ (c .before .if13 .given) in
+    (omega arith, every-more _ _ (t .loop .inv .1) (rw e (eqZ-same (elem (a .b .now) (t .loop .i)))))
+
+returns-2 : tie.Need-returns-2 Inv-loop μ-loop
+returns-2 c =
+    let l = c .before .loop in
+    let e : l .i ≡ 256 = omega arith in
+    sym (rw e at (l .inv .1))
+
+pub same-quants-spec : {M : Type 1} → statement M
+same-quants-spec =
+    tie.close
+    (tie.spec
+    Inv-loop
+    μ-loop
+    loop-holds
+    element-copy-out-if1
+    element-copy-out-if1-2
+    returns
+    add-i
+    loop-less
+    loop-again
+    returns-2)

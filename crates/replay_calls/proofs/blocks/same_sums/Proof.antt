@@ -1,0 +1,75 @@
+-- `blocks::same_sums` meets its contract: every sum passed is the same. Assumes nothing.
+use mathlib.Core.Path.{_≡_, sym, ap, _∙_}
+use mathlib.Core.Bool.{true}
+use Prim.Native.Nat.{_-_, _≤_}
+use mir.Syntax.{w32}
+use mir.Val.{ofZ, toZ}
+use Rattle.numbers.proofs.Signed.{read-is}
+use Rattle.dots_activation.specs.Whole.{elem, eqZ, every}
+use Rattle.dots_activation.proofs.Tests.{eqZ-same, eqZ-not, every-none, every-more, every-not}
+use native.Mathlib.Omega.{arith}
+use Rattle.replay_calls.proofs.blocks.same_sums.Statement.{statement}
+use Rattle.replay_calls.proofs.blocks.same_sums.Tie as tie
+
+abbrev Inv-loop : tie.InvT-loop
+Inv-loop a b j₀ j = (j ≤ 8) × (every (λ k. eqZ (elem a k) (elem b k)) j ≡ true)
+
+abbrev μ-loop : tie.MeasureT-loop
+μ-loop a b j₀ j = 8 - j
+
+loop-holds : tie.Need-loop-holds Inv-loop μ-loop
+loop-holds c = (omega arith, every-none _)
+
+mul-if1 : tie.Need-mul-if1 Inv-loop μ-loop
+mul-if1 c = omega arith
+
+element-copy-out-if1 : tie.Need-element-copy-out-if1 Inv-loop μ-loop
+element-copy-out-if1 c = omega arith
+
+mul-if1-2 : tie.Need-mul-if1-2 Inv-loop μ-loop
+mul-if1-2 c = omega arith
+
+element-copy-out-if1-2 : tie.Need-element-copy-out-if1-2 Inv-loop μ-loop
+element-copy-out-if1-2 c = omega arith
+
+returns : tie.Need-returns Inv-loop μ-loop
+returns c =
+    let t = c .before .before .before .before in
+    let a = t .before .args in
+    sym (every-not _ 8 (t .loop .j) (omega arith) (eqZ-not (elem (a .a .now) (t .loop .j)) (elem (a .b .now) (t .loop .j)) (λ e. c .if1 .taken (ap (ofZ w32) e))))
+
+add-j : tie.Need-add-j Inv-loop μ-loop
+add-j c = omega arith
+
+loop-less : tie.Need-loop-less Inv-loop μ-loop
+loop-less c = omega arith
+
+loop-again : tie.Need-loop-again Inv-loop μ-loop
+loop-again c =
+    let t = c .before .before .before .before in
+    let a = t .before .args in
+    let e : elem (a .a .now) (t .loop .j) ≡ elem (a .b .now) (t .loop .j) = sym (read-is w32 _ (c .before .before .if12 .given)) ∙ ap (toZ w32) (c .if1 .left) ∙ read-is w32 _ (c .before .if13 .given) in
+    (omega arith, every-more _ _ (t .loop .inv .1) (rw e (eqZ-same (elem (a .b .now) (t .loop .j)))))
+
+returns-2 : tie.Need-returns-2 Inv-loop μ-loop
+returns-2 c =
+    let l = c .before .loop in
+    let e : l .j ≡ 8 = omega arith in
+    sym (rw e at (l .inv .1))
+
+pub same-sums-spec : {M : Type 1} → statement M
+same-sums-spec =
+    tie.close
+    (tie.spec
+    Inv-loop
+    μ-loop
+    loop-holds
+    mul-if1
+    element-copy-out-if1
+    mul-if1-2
+    element-copy-out-if1-2
+    returns
+    add-j
+    loop-less
+    loop-again
+    returns-2)

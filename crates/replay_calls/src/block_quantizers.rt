@@ -1,0 +1,73 @@
+// The block quantizers. A payload is how many places the output has and how many readings there are, the readings, the
+// number that says no, 0 where there is none, and what then stands in the output.
+use quantizers::Target;
+use refusals::Outcome;
+use replay_answers::Finding;
+use replay_answers::read_floats;
+use replay_answers::same_bytes;
+use replay_answers::says;
+use replay_answers::u32_at;
+
+// The places of an output at most: two blocks of Q8_0, and one place more.
+const ROOM: usize = 69;
+// What stands in each of them before the call.
+const STOOD: u8 = 0xEE;
+// The readings at most: two blocks, and one reading more.
+const READINGS: usize = 65;
+
+fn quantize(target: Target, data: &[f32], out: &mut [u8]) -> Outcome {
+    match target {
+        Target::Q40 => quantizers::quantize_q4_0(data, out),
+        Target::Q80 => quantizers::quantize_q8_0(data, out),
+    }
+}
+
+// What ours says and leaves in its output on readings whose bits stand in these bytes, read into `data`, beside theirs.
+fn judge_output(
+    target: Target,
+    bytes: &[u8],
+    data: &mut [f32],
+    out: &mut [u8],
+    number: u32,
+    left: &[u8],
+) -> Finding {
+    read_floats(bytes, data);
+    let said = quantize(target, data, out);
+    Finding::of_same(says(said, number) && same_bytes(left, out))
+}
+
+fn judge_quantize(target: Target, payload: &[u8]) -> Finding {
+    let room = u32_at(payload, 0) as usize;
+    let count = u32_at(payload, 4) as usize;
+    if room > ROOM {
+        return Finding::Malformed;
+    }
+    if count > READINGS {
+        return Finding::Malformed;
+    }
+    let end = 8 + 4 * count;
+    let left = end + 4;
+    if payload.len() != left + room {
+        return Finding::Malformed;
+    }
+    let number = u32_at(payload, end);
+    let mut data = [0.0f32; READINGS];
+    let mut out = [STOOD; ROOM];
+    judge_output(
+        target,
+        &payload[8..end],
+        &mut data[..count],
+        &mut out[..room],
+        number,
+        &payload[left..],
+    )
+}
+
+// A stored answer of the call that has this tag.
+pub fn judge_block_quantizer(tag: u8, payload: &[u8]) -> Finding {
+    match tag {
+        11 => judge_quantize(Target::Q40, payload),
+        12 => judge_quantize(Target::Q80, payload),
+        _ => Finding::Unknown,
+    }
+}
