@@ -2,5 +2,4 @@
 pub mod Runs
 pub mod Dots
 pub mod Bounds
-pub mod Rows
 pub mod Unique

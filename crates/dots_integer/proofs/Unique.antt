@@ -2,13 +2,9 @@
 use Rattle.refusals.proofs.Once.{OneResult, same, one-answer}
 use Rattle.dots_integer.proofs.dot.dot_q4k_q8_block.Reads as dot-q4k
 use Rattle.dots_integer.proofs.dot.dot_q6k_q8_block.Reads as dot-q6k
-use Rattle.dots_integer.proofs.row.integer_dot_q4k.Reads as integer-dot
 
 pub dot-q4k-once : OneResult dot-q4k.Post
 dot-q4k-once κs a x y s t h k = one-answer x y (same h k)
 
 pub dot-q6k-once : OneResult dot-q6k.Post
 dot-q6k-once κs a x y s t h k = one-answer x y (same h k)
-
-pub integer-dot-once : OneResult integer-dot.Post
-integer-dot-once κs a x y s t h k = one-answer x y (same h k)

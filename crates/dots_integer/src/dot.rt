@@ -19,7 +19,7 @@ ghost use Rattle.dots_activation.specs.Blocks.{heldBlock, SmallSums};
 ghost use Rattle.dots_integer.specs.Dots.{blockDot, dotQ4kSays, dotQ6kSays};
 
 // The bytes of a Q4_K block.
-pub(crate) const Q4K_BYTES: usize = 144;
+pub const Q4K_BYTES: usize = 144;
 // The bytes of a Q6_K block.
 const Q6K_BYTES: usize = 210;
 

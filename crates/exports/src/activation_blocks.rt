@@ -5,7 +5,7 @@ use c_answers::lay_out_block;
 ghost use mathlib.Core.Path.{_≡_};
 ghost use Rattle.dots_activation.specs.Blocks.{quantized};
 ghost use Rattle.dots_integer.specs.Dots.{dotQ4kSays, dotQ6kSays};
-ghost use Rattle.dots_integer.specs.Rows.{integerSays};
+ghost use Rattle.dots_integer_row.specs.Rows.{integerSays};
 ghost use Rattle.c_answers.specs.Answers.{laidOut};
 ghost use Rattle.c_answers.specs.Blocks.{blockIn, blockLaidOut};
 
@@ -64,11 +64,11 @@ pub extern "C" fn jambharrow_dot_q6k_q8_block(
     )
 }
 
-// `dots_integer::integer_dot_q4k`, for C.
+// `dots_integer_row::integer_dot_q4k`, for C.
 #[no_mangle]
 pub extern "C" fn jambharrow_integer_dot_q4k(x: &[f32], w: &[u8], n: usize, value: &mut f32) -> u32
     ensures { λ r. ⌜ (r, now (value .exit))
         ≡ laidOut (integerSays (now (x .entry)) (now (w .entry)) n) (now (value .entry)) ⌝ }
 {
-    lay_out(dots_integer::integer_dot_q4k(x, w, n), value)
+    lay_out(dots_integer_row::integer_dot_q4k(x, w, n), value)
 }

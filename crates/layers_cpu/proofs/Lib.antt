@@ -1,4 +1,3 @@
 -- Why the `_cpu` layers meet their contracts.
 pub mod Columns
-pub mod CpuFits
 pub mod Unique

@@ -1,47 +1,25 @@
 -- What the `_cpu` layers say, and what their memory holds then: `linear_q4_k_cpu`, `linear_q6_k_cpu`,
 -- `linear_q4_0_cpu`. Definitions only.
-use Prim.Native.Nat.{ℕ, _+_, _-_, _*_, _/_, _%_}
-use mathlib.Core.Bool.{not, cond}
+use Prim.Native.Nat.{ℕ, _+_, _-_, _*_}
+use mathlib.Core.Bool.{cond}
 use mathlib.Core.List.{List}
-use lib.Dec.{ltb, eqb}
+use lib.Dec.{eqb}
 use lib.ListN.{length}
 use lib.Ieee.{Float}
 use Rattle.refusals.specs.Said.{Said}
-use Rattle.refusals.specs.Refusals.{none, given, carriedOut}
+use Rattle.refusals.specs.Refusals.{carriedOut}
 use Rattle.memory.specs.Lists.{table, filled}
-use Rattle.layouts.specs.Formats.{bytes32, bytesK}
-use Rattle.layouts.specs.Weights.{weightAt, valuesOf}
+use Rattle.layouts.specs.Weights.{weightAt}
 use Rattle.layouts.specs.declared.format.Format.{Format}
-use Rattle.layouts.specs.declared.format.Format.the-variants.{Of32, OfK}
 use Rattle.sums_lanes.specs.Lanes.{products}
 use Rattle.sums.specs.Rows.{rowSum}
 use Rattle.layers_shape.specs.declared.Shape.{Shape}
-use Rattle.layers_shape.specs.Shapes.{oversize, readingRow, outputs}
+use Rattle.layers_shape.specs.Shapes.{readingRow, outputs}
+use Rattle.layers_cpu_checks.specs.Refusals.{cpuNo}
 
 -- weight i of row o, of rows of n values that may share a block
 abbrev pub rowWeight : Format → List ℕ → ℕ → ℕ → ℕ → Float
 rowWeight f w n o i = weightAt f w (o * n + i)
-
--- Why a `_cpu` layer says no, given so many readings, weight bytes, output and scratch places. Any other length than
--- what is needed is refused, but for scratch, which may be longer. The K formats look at the readings and the output
--- first, and need no whole blocks to a row: two rows of 128 share one.
-unfoldable pub cpuNo : Format → Shape → ℕ → ℕ → ℕ → ℕ → ℕ
-cpuNo (OfK f) s readings weights places scratch =
-    given 6 (oversize s)
-    (given 4 (not (eqb readings (s .batch * s .«in_feat»)))
-    (given 5 (not (eqb places (s .batch * s .«out_feat»)))
-    (given 1 (not (eqb (weights % bytesK f) 0))
-    (given 3 (not (eqb (valuesOf (OfK f) weights) (s .«out_feat» * s .«in_feat»)))
-    (given 5 (ltb scratch (s .«in_feat»))
-    none)))))
-cpuNo (Of32 f) s readings weights places scratch =
-    given 6 (oversize s)
-    (given 2 (not (eqb (s .«in_feat» % 32) 0))
-    (given 3 (not (eqb weights (s .«out_feat» * (s .«in_feat» / 32 * bytes32 f))))
-    (given 4 (not (eqb readings (s .batch * s .«in_feat»)))
-    (given 5 (not (eqb places (s .batch * s .«out_feat»)))
-    (given 5 (ltb scratch (s .«in_feat»))
-    none)))))
 
 -- the fixed-order dot of a row of n readings and row o of the weights, decoded
 abbrev pub decodedDotAt : Format → List Float → List ℕ → ℕ → ℕ → Float

@@ -1,6 +1,6 @@
 // The `_cpu` layers: a row of weights is decoded into scratch once, and serves every row of readings.
-use crate::cpu_checks::cpu_no;
 use decoded_rows::decode_row;
+use layers_cpu_checks::cpu_no;
 use layers_shape::Shape;
 use layouts::Format;
 use layouts::Format32;
@@ -16,7 +16,8 @@ ghost use Rattle.refusals.specs.Sizes.{mostIn, mostOut, mostBatch};
 ghost use Rattle.sums_lanes.specs.Lanes.{products};
 ghost use Rattle.sums.specs.Rows.{rowSum};
 ghost use Rattle.layers_shape.specs.Shapes.{shape, readingRow};
-ghost use Rattle.layers_cpu.specs.Says.{cpuNo, cpuSays};
+ghost use Rattle.layers_cpu_checks.specs.Refusals.{cpuNo};
+ghost use Rattle.layers_cpu.specs.Says.{cpuSays};
 ghost use Rattle.layers_cpu.specs.Columns.{column};
 
 // Place o of every row of the output: the dot of each row of readings and one row of weights, decoded.

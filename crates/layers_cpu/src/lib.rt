@@ -1,6 +1,5 @@
 // The `_cpu` layers: a row of packed weights is decoded once, and serves every row of readings.
 mod cpu;
-mod cpu_checks;
 
 pub use cpu::linear_q4_0_cpu;
 pub use cpu::linear_q4_k_cpu;

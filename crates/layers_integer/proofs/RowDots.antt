@@ -16,7 +16,7 @@ use Rattle.memory.proofs.Filled.{length-table, getD-table}
 use Rattle.memory.proofs.Parts.{within}
 use Rattle.layouts.specs.declared.format.FormatK.the-variants.{Q4K}
 use Rattle.sums_tree.specs.Tree.{tree, met}
-use Rattle.dots_integer.specs.Rows.{blocksIn, blockAt, rowDot, integerSays}
+use Rattle.dots_integer_row.specs.Rows.{blocksIn, blockAt, rowDot, integerSays}
 use Rattle.layers_shape.specs.declared.Shape.{Shape}
 use Rattle.layers_shape.specs.Shapes.{rowBytes, layerNo, readingRow, weightRow, outputs}
 use Rattle.layers_shape.proofs.Fits.{Fits, fits}

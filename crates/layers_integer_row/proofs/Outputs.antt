@@ -12,7 +12,7 @@ use Rattle.layouts.specs.declared.format.FormatK.{FormatK}
 use Rattle.dots_activation.specs.declared.block.Q8Block.{Q8Block}
 use Rattle.dots_activation.specs.Blocks.{blockOf}
 use Rattle.dots_integer.specs.Dots.{blockDot}
-use Rattle.dots_integer.specs.Rows.{blockLength, blockAt}
+use Rattle.dots_integer_row.specs.Rows.{blockLength, blockAt}
 use Rattle.layers_shape.specs.Shapes.{weightRow}
 use Rattle.held_rows.specs.declared.meeting.Meeting.{Meeting}
 use Rattle.held_rows.specs.Held.{heldDot, heldRowDot, Holds}

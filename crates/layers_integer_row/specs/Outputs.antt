@@ -3,7 +3,7 @@ use Prim.Native.Nat.{ℕ, _/_}
 use mathlib.Core.List.{List}
 use lib.Ieee.{Float}
 use Rattle.layouts.specs.declared.format.FormatK.{FormatK}
-use Rattle.dots_integer.specs.Rows.{blockAt}
+use Rattle.dots_integer_row.specs.Rows.{blockAt}
 use Rattle.layers_shape.specs.declared.Shape.{Shape}
 use Rattle.layers_shape.specs.Shapes.{readingRow, weightRow, outputs}
 use Rattle.held_rows.specs.declared.meeting.Meeting.{Meeting}

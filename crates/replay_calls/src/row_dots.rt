@@ -15,7 +15,7 @@ enum RowDot {
 
 fn answer(dot: RowDot, x: &[f32], w: &[u8], n: usize) -> Answer {
     match dot {
-        RowDot::IntegerQ4k => dots_integer::integer_dot_q4k(x, w, n),
+        RowDot::IntegerQ4k => dots_integer_row::integer_dot_q4k(x, w, n),
         RowDot::FusedQ4k => dots_fused::canonical_dot_q4k_fused(x, w, n),
         RowDot::FusedQ6k => dots_fused::q6k_fused_f32_dot(x, w, n),
     }

@@ -1,4 +1,4 @@
-// The sum of a row: its chunks' sums, met in the tree. Everything is added in one order, so that every result has one set
+// The sum of a row: its chunks' sums, met in the tree. Everything is added in one order, so that a result has one set
 // of bits.
 mod chunks;
 mod dot;

@@ -23,7 +23,7 @@ use Rattle.layers_shape.proofs.Fits.{product-small}
 use Rattle.layers_cpu.specs.Says.{rowWeight, decodedDotAt, scratchAfter, cpuSays}
 use Rattle.layers_cpu.specs.Columns.{column, columns, scratchOf}
 use Rattle.layers_cpu.proofs.Columns.{columns-none, columns-more, columns-all, length-columns, scratch-none, scratch-more, scratch-last, length-scratch}
-use Rattle.layers_cpu.proofs.CpuFits.{CpuFits, cpu-fits}
+use Rattle.layers_cpu_checks.proofs.CpuFits.{CpuFits, cpu-fits}
 use Rattle.layers_cpu.proofs.cpu.all_columns.Statement.{statement}
 use Rattle.layers_cpu.proofs.cpu.all_columns.Tie as tie
 

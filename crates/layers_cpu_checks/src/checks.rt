@@ -5,7 +5,7 @@ use layouts::Format32;
 use layouts::FormatK;
 ghost use mathlib.Core.Path.{_≡_};
 ghost use Prim.Native.Nat.{_^_, _<_};
-ghost use Rattle.layers_cpu.specs.Says.{cpuNo};
+ghost use Rattle.layers_cpu_checks.specs.Refusals.{cpuNo};
 
 // Over a K format: 6, 4, 5, 1, 3, and 5 for scratch, in this order; 0 where it does not. A slice has fewer than 2^63
 // places, so the product of its blocks fits.
@@ -75,7 +75,7 @@ fn cpu_32_no(
     0
 }
 
-pub(crate) fn cpu_no(
+pub fn cpu_no(
     format: Format,
     s: Shape,
     readings: usize,

@@ -14,7 +14,7 @@ use Rattle.layouts.specs.declared.format.Format.the-variants.{Of32, OfK}
 use Rattle.layouts.proofs.Sizes.{least-32}
 use Rattle.layers_shape.specs.declared.Shape.{Shape}
 use Rattle.layers_shape.proofs.Fits.{InSizes, in-sizes}
-use Rattle.layers_cpu.specs.Says.{cpuNo}
+use Rattle.layers_cpu_checks.specs.Refusals.{cpuNo}
 
 -- all that a `_cpu` layer asks for is there
 pub record CpuFits (f : Format) (s : Shape) (readings weights places scratch : ℕ) : Type 0 where

@@ -14,8 +14,8 @@ use Rattle.layouts.specs.Formats.{bytesK}
 use Rattle.sums_tree.specs.Tree.{tree, combined}
 use Rattle.dots_activation.specs.declared.block.Q8Block.{Q8Block}
 use Rattle.dots_activation.specs.Blocks.{blockOf}
 use Rattle.dots_integer.specs.Dots.{blockDot}
-use Rattle.dots_integer.specs.Rows.{blocksIn, blockLength, blockAt, rowDot}
+use Rattle.dots_integer_row.specs.Rows.{blocksIn, blockLength, blockAt, rowDot}
 
 module _ (f : FormatK) (x : List Float) (w : List ℕ) (n : ℕ) where
   -- the dot of the part of the weights that is block b and the block q of the part of the readings up to e

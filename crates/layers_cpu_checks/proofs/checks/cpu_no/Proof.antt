@@ -1,7 +1,7 @@
--- `cpu_checks::cpu_no` meets its contract: a case for each kind of format. Assumes nothing.
+-- `checks::cpu_no` meets its contract: a case for each kind of format. Assumes nothing.
 use borrow.Author.Needs.{needs}
-use Rattle.layers_cpu.proofs.cpu_checks.cpu_no.Statement.{statement}
-use Rattle.layers_cpu.proofs.cpu_checks.cpu_no.Tie as tie
+use Rattle.layers_cpu_checks.proofs.checks.cpu_no.Statement.{statement}
+use Rattle.layers_cpu_checks.proofs.checks.cpu_no.Tie as tie
 
 enum-known-format : tie.Need-enum-known-format
 enum-known-format c = search needs

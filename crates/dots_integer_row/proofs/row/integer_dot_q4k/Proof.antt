@@ -5,10 +5,10 @@ use native.Mathlib.Omega.{arith}
 use borrow.Author.Tests.{lt-ltb, le-ltb, eq-eqb, ne-eqb}
 use lib.ListN.{length}
 use Rattle.refusals.specs.Said.{value}
-use Rattle.dots_integer.specs.Rows.{blocksIn, integerSays}
+use Rattle.dots_integer_row.specs.Rows.{blocksIn, integerSays}
 use borrow.Author.Needs.{needs}
-use Rattle.dots_integer.proofs.row.integer_dot_q4k.Statement.{statement}
-use Rattle.dots_integer.proofs.row.integer_dot_q4k.Tie as tie
+use Rattle.dots_integer_row.proofs.row.integer_dot_q4k.Statement.{statement}
+use Rattle.dots_integer_row.proofs.row.integer_dot_q4k.Tie as tie
 
 returns : tie.Need-returns
 unfolding integerSays

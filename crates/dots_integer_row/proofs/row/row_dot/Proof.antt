@@ -6,11 +6,11 @@ use lib.Seq.{length-take-le}
 use Rattle.memory.proofs.Filled.{part-length}
 use Rattle.layouts.specs.declared.format.FormatK.the-variants.{Q4K}
 use Rattle.dots_activation.specs.Blocks.{SmallSums}
-use Rattle.dots_integer.specs.Rows.{blocksIn}
+use Rattle.dots_integer_row.specs.Rows.{blocksIn}
 use Rattle.dots_integer.proofs.Bounds.{small-sums}
-use Rattle.dots_integer.proofs.Rows.{block-is, Parts, parts-start, parts-more, parts-met}
-use Rattle.dots_integer.proofs.row.row_dot.Statement.{statement}
-use Rattle.dots_integer.proofs.row.row_dot.Tie as tie
+use Rattle.dots_integer_row.proofs.Rows.{block-is, Parts, parts-start, parts-more, parts-met}
+use Rattle.dots_integer_row.proofs.row.row_dot.Statement.{statement}
+use Rattle.dots_integer_row.proofs.row.row_dot.Tie as tie
 
 abbrev Inv-loop : tie.InvT-loop
 Inv-loop x w n blocks parts₀ b₀ parts b = Parts Q4K x w n parts₀ parts b

@@ -1,4 +1,4 @@
--- `cpu_checks::cpu_k_no` meets its contract: the checks in their order. Assumes nothing.
+-- `checks::cpu_k_no` meets its contract: the checks in their order. Assumes nothing.
 use mathlib.Core.Path.{sym, _∙_}
 use native.Mathlib.Omega.{arith}
 use borrow.Author.Needs.{needs}
@@ -7,9 +7,9 @@ use Rattle.refusals.specs.Refusals.{given}
 use Rattle.layouts.specs.declared.format.Format.the-variants.{OfK}
 use Rattle.layouts.proofs.Sizes.{sizes, values-fit}
 use Rattle.layers_shape.proofs.Fits.{InSizes, in-sizes, product-small}
-use Rattle.layers_cpu.specs.Says.{cpuNo}
-use Rattle.layers_cpu.proofs.cpu_checks.cpu_k_no.Statement.{statement}
-use Rattle.layers_cpu.proofs.cpu_checks.cpu_k_no.Tie as tie
+use Rattle.layers_cpu_checks.specs.Refusals.{cpuNo}
+use Rattle.layers_cpu_checks.proofs.checks.cpu_k_no.Statement.{statement}
+use Rattle.layers_cpu_checks.proofs.checks.cpu_k_no.Tie as tie
 
 is-oversize-requires : tie.Need-is-oversize-requires
 is-oversize-requires c κs = search needs

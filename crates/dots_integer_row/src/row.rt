@@ -1,7 +1,7 @@
 // The dot of a row of packed blocks and readings, in whole numbers block by block.
-use crate::dot::Q4K_BYTES;
-use crate::dot::block_dot_q4k;
 use dots_activation::quantized_block;
+use dots_integer::Q4K_BYTES;
+use dots_integer::block_dot_q4k;
 use layouts::FormatK;
 use refusals::Answer;
 ghost use mathlib.Core.Path.{_≡_};
@@ -9,7 +9,7 @@ ghost use Prim.Native.Nat.{_+_, _*_, _≤_, _<_};
 ghost use lib.ListN.{length};
 ghost use Rattle.refusals.specs.Said.{saidBy};
 ghost use Rattle.refusals.specs.Sizes.{mostIn};
-ghost use Rattle.dots_integer.specs.Rows.{blocksIn, blockLength, rowDot, integerSays};
+ghost use Rattle.dots_integer_row.specs.Rows.{blocksIn, blockLength, rowDot, integerSays};
 
 // The blocks of a row at most.
 const MOST_BLOCKS: usize = 512;

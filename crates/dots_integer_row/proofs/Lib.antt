@@ -1,0 +1,3 @@
+-- A row's dot, block by block, and one answer for its call.
+pub mod Rows
+pub mod Unique

@@ -1,0 +1,2 @@
+-- What the integer dot of a row says.
+pub mod Rows

@@ -1,0 +1,2 @@
+-- What the `_cpu` layers refuse.
+pub mod Refusals
