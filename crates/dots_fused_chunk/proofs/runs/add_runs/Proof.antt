@@ -71,9 +71,9 @@ loop-less c = omega arith
 
 loop-again : tie.Need-loop-again Inv-loop μ-loop
 loop-again c =
-    let b = c .before .before .before .before .before in
+    let b = c .before .before .before .before in
     let s = b .before .scales-q6k in
-    let t = b .before .before .before .before .before in
+    let t = b .before .before .before .before in
     let a = t .args in
     let e = b .loop .e in
     grown-more (a .l) (b .loop .out) _ (blockTerms Q6K (a .x .now) (a .block .now) (wholes (a .q .now))) _ 16 16 e (omega arith) (omega arith) (omega arith)
@@ -82,7 +82,7 @@ loop-again c =
 returns : tie.Need-returns Inv-loop μ-loop
 returns c =
     let b = c .before in
-    let a = b .before .before .before .before .before .args in
+    let a = b .before .before .before .before .args in
     grown-done (a .l) (b .loop .out) (blockTerms Q6K (a .x .now) (a .block .now) (wholes (a .q .now))) 16 16 (b .loop .e) (omega arith) (b .loop .inv)
 
 pub add-runs-spec : {M : Type 1} → statement M

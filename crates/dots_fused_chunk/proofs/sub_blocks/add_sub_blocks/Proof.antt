@@ -80,7 +80,7 @@ loop-less c = omega arith
 
 loop-again : tie.Need-loop-again Inv-loop μ-loop
 loop-again c =
-    let b = c .before .before .before .before .before in
+    let b = c .before .before .before .before in
     let m = b .before .minimums-q4k in
     let s = b .before .before .scales-q4k in
     let t = b .before .before .before .before .before .before in
