@@ -1,4 +1,5 @@
 // A row that may start or end inside a block, and a row of whole blocks.
+use crate::blocks::decode_blocks;
 use layouts::Format;
 ghost use mathlib.Core.Path.{_≡_};
 ghost use Prim.Native.Nat.{_+_, _^_, _≤_, _<_, min};
@@ -15,7 +16,7 @@ fn decode_within(format: Format, block: &[u8], from: usize, out: &mut [f32])
 {
     let values = layouts::block_values(format);
     let mut whole = [0.0f32; 256];
-    decoders::decode_blocks(format, block, &mut whole[..values]);
+    decode_blocks(format, block, &mut whole[..values]);
     for i in 0..out.len() {
         out[i] = whole[from + i];
     }
@@ -64,5 +65,5 @@ pub fn decode_row(format: Format, w: &[u8], from: usize, out: &mut [f32])
     }
     let start = from / values * size;
     let stop = start + n / values * size;
-    decoders::decode_blocks(format, &w[start..stop], out);
+    decode_blocks(format, &w[start..stop], out);
 }
