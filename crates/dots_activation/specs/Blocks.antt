@@ -33,14 +33,10 @@ sumOf32 qs j = sumℤ (λ (l : ℕ). elem qs (32 * j + l)) 32
 abbrev pub sumsOf : List ℤ → List ℤ
 sumsOf qs = table (sumOf32 qs) 8
 
--- a block that is held as its parts: its scale, its quants and its sums
-abbrev pub heldBlock : Float → List ℤ → List ℤ → Q8Block
-heldBlock d qs sums = record { d = d; qs = qs; bsums = sums }
-
 -- An activation block has one float scale, 256 signed quants and eight sums of 32: the block of a scale and its quants
 -- ..
 abbrev pub blockWith : Float → List ℤ → Q8Block
-blockWith d qs = heldBlock d qs (sumsOf qs)
+blockWith d qs = record { d = d; qs = qs; bsums = sumsOf qs }
 
 -- .. and of at most 256 readings.
 unfoldable pub blockOf : List Float → Q8Block
@@ -62,6 +58,6 @@ rightAt b j = eqZ (sumOf32 (b .qs) j) (elem (b .bsums) j)
 unfoldable pub sumsRight : Q8Block → Bool
 sumsRight b = every (rightAt b) 8
 
--- each of a block's eight sums is at most 4,096 in size, as a sum of 32 signed bytes is
-pub record SmallSums (b : Q8Block) : Type 0 where
-  pub near : (j : ℕ) → j < 8 → Within 4096 (elem (b .bsums) j)
+-- each of eight sums is at most 4,096 in size, as a sum of 32 signed bytes is
+pub record SmallSums (sums : List ℤ) : Type 0 where
+  pub near : (j : ℕ) → j < 8 → Within 4096 (elem sums j)

@@ -71,7 +71,7 @@ fn sum_right(block: Q8Block, j: usize) -> bool
 
 // Whether the block's sums are the sums of its 32s.
 pub fn sums_right(block: Q8Block) -> bool
-    ensures { λ r. ⌜ (r ≡ sumsRight block) × (r ≡ true → SmallSums block) ⌝ }
+    ensures { λ r. ⌜ (r ≡ sumsRight block) × (r ≡ true → SmallSums (block .bsums)) ⌝ }
 {
     for j in 0..8usize {
         if !sum_right(block, j) {

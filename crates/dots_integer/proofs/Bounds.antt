@@ -62,7 +62,7 @@ module _ (xs : List Float) where
   sum-at j h = getD-table (sumOf32 (quantsOf xs)) 8 j (pos 0) h
 
   -- its sums are small, ..
-  pub small-sums : SmallSums (blockOf xs)
+  pub small-sums : SmallSums (blockOf xs .bsums)
   small-sums = record {
     near = λ j h. subst (Within 4096) (sym (sum-at j h)) (within (sum-within (λ (l : ℕ). elem (quantsOf xs) (32 * j + l)) 127 32 (λ l p. quants-within (32 * j + l) (omega arith))) (lit≤ tt));
   }
@@ -142,7 +142,7 @@ module _ (w : List ℕ) (bytes : (i : ℕ) → getD w i 0 < 256) where
   -- activation quants within X: the sum over at most 256 places
   pub sum-within-k : (f : FormatK) (X : ℕ) (x : List ℤ) (n : ℕ) → n ≤ 256 → ((i : ℕ) → i < n → Within X (elem x i)) → Within (256 * (mostScale f * (mostQuant f * X))) (wholeSum f w x n)
   sum-within-k f X x n h q =
-      within (sum-within (weighedAt f w x) (mostScale f * (mostQuant f * X)) n (λ i p. mul-within (scale-within f i) (mul-within (quant-within-k f i) (q i p)))) (mul-le-mul-right (mostScale f * (mostQuant f * X)) h)
+      within (sum-within (weighedAt (scaleK f w) (quantK f w) x) (mostScale f * (mostQuant f * X)) n (λ i p. mul-within (scale-within f i) (mul-within (quant-within-k f i) (q i p)))) (mul-le-mul-right (mostScale f * (mostQuant f * X)) h)
 
   -- From our quantizer A stays within 30,723,840 ..
   pub a-within : (xs : List Float) (n : ℕ) → n ≤ 256 → Within 30723840 (wholeSum Q4K w (quantsOf xs) n)

@@ -1,4 +1,4 @@
--- `whole::run_of_16` meets its contract: 16 products, each within 16384. Assumes nothing.
+-- `whole::run` meets its contract: 16 products, each within 16384. Assumes nothing.
 use mathlib.Core.Path.{_≡_}
 use Prim.Native.Nat.{ℕ, _+_, _*_, _-_, _≤_}
 use native.Mathlib.Omega.{arith}
@@ -8,8 +8,8 @@ use Rattle.numbers.proofs.Signed.{read-is}
 use Rattle.dots_activation.specs.Whole.{elem}
 use Rattle.dots_activation.proofs.Magnitudes.{within}
 use Rattle.dots_activation.proofs.Loops.{Acc, acc-none, acc-all, call-fits, call-more}
-use Rattle.dots_integer.proofs.whole.run_of_16.Statement.{statement}
-use Rattle.dots_integer.proofs.whole.run_of_16.Tie as tie
+use Rattle.dots_integer.proofs.whole.run.Statement.{statement}
+use Rattle.dots_integer.proofs.whole.run.Tie as tie
 
 abbrev Inv-loop : tie.InvT-loop
 Inv-loop q x e from s₀ l₀ s l = (l ≤ 16) × Acc w32 (λ (i : ℕ). elem q (16 * e + i) *ℤ elem x (16 * e + i)) 16384 l s
@@ -60,8 +60,8 @@ loop-again c = (omega arith, call-more 16 (c .before .before .before .before .lo
 returns : tie.Need-returns Inv-loop μ-loop
 returns c = let r = acc-all 16 (c .before .loop .inv .1) (omega arith) in (r .0, within (r .1) (omega arith))
 
-pub run-of-16-spec : {M : Type 1} → statement M
-run-of-16-spec =
+pub run-spec : {M : Type 1} → statement M
+run-spec =
     tie.close
     (tie.spec
     Inv-loop

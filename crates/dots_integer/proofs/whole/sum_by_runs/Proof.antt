@@ -1,4 +1,4 @@
--- `whole::whole_q6k` meets its contract: sixteen runs of 16. Assumes nothing.
+-- `whole::sum_by_runs` meets its contract: sixteen runs. Assumes nothing.
 use mathlib.Core.Path.{_≡_, ap, _∙_}
 use Prim.Native.Nat.{_-_, _≤_}
 use native.Mathlib.Omega.{arith}
@@ -6,14 +6,14 @@ use borrow.Author.Needs.{needs}
 use lib.IntN.{ℤ, _*ℤ_}
 use mir.Syntax.{w8, w32}
 use Rattle.numbers.proofs.Signed.{read-is}
-use Rattle.layouts.specs.declared.format.FormatK.the-variants.{Q6K}
+use Rattle.layouts.specs.K.{scaleQ6K, quantQ6K}
 use Rattle.dots_activation.proofs.Loops.{Acc, acc-none, acc-all, call-fits, call-more}
 use Rattle.dots_integer.proofs.Runs.{runWeighs, run-q6k, runs-are}
-use Rattle.dots_integer.proofs.whole.whole_q6k.Statement.{statement}
-use Rattle.dots_integer.proofs.whole.whole_q6k.Tie as tie
+use Rattle.dots_integer.proofs.whole.sum_by_runs.Statement.{statement}
+use Rattle.dots_integer.proofs.whole.sum_by_runs.Tie as tie
 
 abbrev Inv-loop : tie.InvT-loop
-Inv-loop w x q a₀ e₀ a e = (e ≤ 16) × Acc w32 (runWeighs Q6K w x 16) 133693440 e a
+Inv-loop w x q a₀ e₀ a e = (e ≤ 16) × Acc w32 (runWeighs (scaleQ6K w) (quantQ6K w) x 16) 133693440 e a
 
 abbrev μ-loop : tie.MeasureT-loop
 μ-loop w x q a₀ e₀ a e = 16 - e
@@ -33,22 +33,22 @@ shared-slice-read-signed-byte c = omega arith
 signed-byte-requires : tie.Need-signed-byte-requires Inv-loop μ-loop
 signed-byte-requires c κs = tt
 
-run-of-16-requires : tie.Need-run-of-16-requires Inv-loop μ-loop
-run-of-16-requires c κs = omega arith
+run-requires : tie.Need-run-requires Inv-loop μ-loop
+run-requires c κs = omega arith
 
 weighed-requires : tie.Need-weighed-requires Inv-loop μ-loop
-weighed-requires c κs = rw (read-is w32 _ (c .run-of-16 .ok)) (c .run-of-16 .ensures .1)
+weighed-requires c κs = rw (read-is w32 _ (c .run .ok)) (c .run .ensures .1)
 
 -- the turn's run
 turn : (c : tie.After-weighed Inv-loop μ-loop)
     → let b = c .before .before .before .before .before .before in
     let a = b .before .before .before .args in
-    c .weighed .result ≡ runWeighs Q6K (a .w .now) (a .x .now) 16 (b .loop .e)
+    c .weighed .result ≡ runWeighs (scaleQ6K (a .w .now)) (quantQ6K (a .w .now)) (a .x .now) 16 (b .loop .e)
 turn c =
     let b = c .before .before .before .before .before .before in
     let a = b .before .before .before .args in
     let s = c .before .before .before .signed-byte in
-    let r = c .before .run-of-16 in
+    let r = c .before .run in
     let q = b .before .quants-q6k in
     (rw (read-is w32 _ (r .ok), read-is w8 _ (s .ok)) at (c .weighed .ensures .0))
     ∙ ap (λ (z : ℤ). s .result *ℤ z) (r .ensures .0)
@@ -69,10 +69,10 @@ loop-again c = (omega arith, call-more 16 (c .before .before .before .before .be
 returns : tie.Need-returns Inv-loop μ-loop
 returns c =
     let a = c .before .before .before .before .args in
-    acc-all 16 (c .before .loop .inv .1) (omega arith) .0 ∙ runs-are Q6K (a .w .now) (a .x .now) 16 16
+    acc-all 16 (c .before .loop .inv .1) (omega arith) .0 ∙ runs-are (scaleQ6K (a .w .now)) (quantQ6K (a .w .now)) (a .x .now) 16 16
 
-pub whole-q6k-spec : {M : Type 1} → statement M
-whole-q6k-spec =
+pub sum-by-runs-spec : {M : Type 1} → statement M
+sum-by-runs-spec =
     tie.close
     (tie.spec
     Inv-loop
@@ -82,7 +82,7 @@ whole-q6k-spec =
     add-signed-byte
     shared-slice-read-signed-byte
     signed-byte-requires
-    run-of-16-requires
+    run-requires
     weighed-requires
     add-a
     add-e

@@ -1,4 +1,4 @@
--- `whole::run_of_32` meets its contract: 16 turns of two products, each turn within 65280. Assumes nothing.
+-- `whole::sub_block` meets its contract: 16 turns of two products, each turn within 65280. Assumes nothing.
 use mathlib.Core.Path.{_≡_, ap, _∙_}
 use mathlib.Core.List.{List}
 use Prim.Native.Nat.{ℕ, _+_, _*_, _-_, _≤_}
@@ -11,8 +11,8 @@ use Rattle.numbers.proofs.Signed.{read-is}
 use Rattle.dots_activation.specs.Whole.{elem}
 use Rattle.dots_activation.proofs.Ranges.{sum-halves}
 use Rattle.dots_activation.proofs.Loops.{Acc, acc-none, acc-all, call-fits, call-more}
-use Rattle.dots_integer.proofs.whole.run_of_32.Statement.{statement}
-use Rattle.dots_integer.proofs.whole.run_of_32.Tie as tie
+use Rattle.dots_integer.proofs.whole.sub_block.Statement.{statement}
+use Rattle.dots_integer.proofs.whole.sub_block.Tie as tie
 
 -- the product at place i
 abbrev at : List ℕ → List ℤ → ℕ → ℤ
@@ -89,8 +89,8 @@ returns c =
     let r = acc-all 16 (c .before .loop .inv .1) (omega arith) in
     (r .0 ∙ sum-halves (λ (l : ℕ). at (a .q .now) (a .x .now) (32 * a .j + l)) 16, r .1)
 
-pub run-of-32-spec : {M : Type 1} → statement M
-run-of-32-spec =
+pub sub-block-spec : {M : Type 1} → statement M
+sub-block-spec =
     tie.close
     (tie.spec
     Inv-loop
