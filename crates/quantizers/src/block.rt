@@ -16,7 +16,7 @@ fn scale_of(target: Target, x: &[f32]) -> f32
 {
     match target {
         Target::Q40 => readings::largest_value(x) / -8.0,
-        Target::Q80 => readings::largest_magnitude(x) / 127.0,
+        Target::Q80 => readings::scale_q8(x),
     }
 }
 
