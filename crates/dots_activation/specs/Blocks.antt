@@ -5,17 +5,17 @@ use mathlib.Core.List.{List}
 use lib.Dec.{ltb}
 use lib.IntN.{ℤ, pos}
 use lib.ListN.{getD, length, replicate}
-use lib.Ieee.{Float, nan, binary32, ofBits, mul, div}
-use Rattle.memory.specs.Lists.{table}
+use lib.Ieee.{Float, nan, binary32, mul}
+use Rattle.refusals.specs.Said.{Said, value, refused, no}
+use Rattle.refusals.specs.Refusals.{given}
+use Rattle.refusals.specs.declared.Check.{Check}
+use Rattle.refusals.specs.declared.Check.the-variants as check
+use Rattle.memory.specs.Lists.{table, every}
 use Rattle.numbers.specs.Steps.{nought}
-use Rattle.readings.specs.Readings.{largest, inverse, quantQ8}
+use Rattle.readings.specs.Readings.{scaleQ8, inverse, quantQ8}
 use Rattle.dots_activation.specs.declared.block.Q8Block.{Q8Block}
 use Rattle.dots_activation.specs.declared.block.Quantized.{Quantized}
-use Rattle.dots_activation.specs.Whole.{elem, sumℤ, eqZ, every, Within}
-
--- d = largest/127
-abbrev pub scaleQ8 : List Float → Float
-scaleQ8 xs = div binary32 (largest xs (length xs)) (ofBits binary32 0x42fe_0000)
+use Rattle.dots_activation.specs.Whole.{elem, sumℤ, eqZ, Within}
 
 -- each reading times the inverse, as a Q8 quant; quants past the readings are 0
 abbrev pub quantAt : List Float → Float → ℕ → ℤ
@@ -42,13 +42,22 @@ blockWith d qs = record { d = d; qs = qs; bsums = sumsOf qs }
 unfoldable pub blockOf : List Float → Q8Block
 blockOf xs = blockWith (scaleQ8 xs) (quantsOf xs)
 
--- the block beside a refusal: nothing but zeros
-abbrev pub noBlock : Q8Block
-noBlock = record { d = nought; qs = replicate 256 (pos 0); bsums = replicate 8 (pos 0) }
+-- `quantize_block_q8`: 4 for more than 256 readings; and otherwise the block
+unfoldable pub quantizeSays : List Float → Said Q8Block
+quantizeSays xs = given (no 4) (ltb 256 (length xs)) (value (blockOf xs))
 
--- `quantize_block_q8`: 4 for more than 256 readings; and otherwise the block, with the number 0
-unfoldable pub quantized : List Float → Quantized
-quantized xs = cond (ltb 256 (length xs)) (record { no = 4; block = noBlock }) (record { no = 0; block = blockOf xs })
+-- what an answer of a check and a block beside it say
+abbrev pub checkedSays : Check → Q8Block → Said Q8Block
+checkedSays check.Passed b = value b
+checkedSays (check.Refused why) b = refused why
+
+abbrev pub quantizedSays : Quantized → Said Q8Block
+quantizedSays r = checkedSays (r .checked) (r .block)
+
+-- the block that is answered: beside a refusal it has nothing but zeros
+abbrev pub blockSaid : Said Q8Block → Q8Block
+blockSaid (value b) = b
+blockSaid (refused why) = record { d = nought; qs = replicate 256 (pos 0); bsums = replicate 8 (pos 0) }
 
 -- sum j of a block is the sum of its 32
 abbrev pub rightAt : Q8Block → ℕ → Bool

@@ -13,19 +13,20 @@ use lib.Ieee.{Float, nan, binary32, ofBits, le, add, mul}
 use mir.Syntax.{w32}
 use mir.Val.{SFits}
 use Rattle.memory.proofs.Filled.{getD-table}
+use Rattle.memory.proofs.Every.{every-all}
 use Rattle.numbers.specs.Fields.{signed}
 use Rattle.numbers.specs.Steps.{nought, truncated}
-use Rattle.readings.specs.Readings.{inverse, held, quantQ8}
+use Rattle.readings.specs.Readings.{scaleQ8, inverse, held, quantQ8}
 use Rattle.layouts.specs.Of32.{nibble}
 use Rattle.layouts.specs.K.{scaleByte, scaleQ4K, quantQ4K, scaleQ6K, quantQ6K, scaleK, quantK}
 use Rattle.layouts.specs.declared.format.FormatK.{FormatK}
 use Rattle.layouts.specs.declared.format.FormatK.the-variants.{Q4K, Q6K}
 use Rattle.dots_activation.specs.Whole.{elem, eqZ, Within}
 use Rattle.dots_integer.specs.Dots.{weighedAt, wholeSum}
-use Rattle.dots_activation.specs.Blocks.{scaleQ8, quantAt, quantsOf, sumOf32, rightAt, blockOf, sumsRight, SmallSums}
+use Rattle.dots_activation.specs.Blocks.{quantAt, quantsOf, sumOf32, rightAt, blockOf, sumsRight, SmallSums}
 use Rattle.dots_activation.proofs.Magnitudes.{within, pos-within, mul-within, fits-within}
 use Rattle.dots_activation.proofs.Ranges.{sum-within}
-use Rattle.dots_activation.proofs.Tests.{eqZ-same, every-all}
+use Rattle.dots_activation.proofs.Tests.{eqZ-same}
 
 -- ---- a block of our quantizer
 

@@ -1,12 +1,13 @@
 -- Document 01, "Readings to small integers": the dot of a packed block and an activation block. Definitions only.
 use Prim.Native.Nat.{ℕ, min}
-use mathlib.Core.Bool.{Bool, true, false, cond}
+use mathlib.Core.Bool.{Bool, true, false, not, cond}
 use mathlib.Core.List.{List}
 use lib.Dec.{ltb}
 use lib.IntN.{ℤ, pos, _*ℤ_}
 use lib.ListN.{length, take}
 use lib.Ieee.{Float, binary32, mul, sub, ofInt}
-use Rattle.refusals.specs.Said.{Said, value, refused}
+use Rattle.refusals.specs.Said.{Said, value, no}
+use Rattle.refusals.specs.Refusals.{given}
 use Rattle.layouts.specs.Formats.{bytesK}
 use Rattle.layouts.specs.K.{quantK, scaleK, minimumQ4K, dOf, dminOf}
 use Rattle.layouts.specs.declared.format.FormatK.{FormatK}
@@ -46,18 +47,22 @@ scaledDot f w dx sums a = cond (hasMinimums f)
 unfoldable pub blockDot : FormatK → List ℕ → Float → List ℤ → List ℤ → ℕ → Float
 blockDot f w dx qs sums n = scaledDot f w dx sums (wholeSum f w qs n)
 
+-- the same of an activation block as it is handed over
+abbrev pub dotWith : FormatK → List ℕ → Q8Block → ℕ → Float
+dotWith f w b n = blockDot f w (b .d) (b .qs) (b .bsums) n
+
 -- a format with minimums uses the sums, which then have to be the sums of their 32s
 abbrev pub sumsServe : FormatK → Q8Block → Bool
 sumsServe f b = cond (hasMinimums f) (sumsRight b) true
 
 -- A block dot needs one whole block and takes n above 256 as 256; surplus weights are ignored.
 abbrev pub firstDot : FormatK → List ℕ → Q8Block → ℕ → Float
-firstDot f w b n = blockDot f (take (bytesK f) w) (b .d) (b .qs) (b .bsums) (min n 256)
+firstDot f w b n = dotWith f (take (bytesK f) w) b (min n 256)
 
 -- `dot_q4k_q8_block`, `dot_q6k_q8_block`: fewer weights than needed; sums that aren't the sums of their 32s; and
 -- otherwise its formula, also at n = 0
-unfoldable pub blockDotSays : FormatK → List ℕ → Q8Block → ℕ → Said
+unfoldable pub blockDotSays : FormatK → List ℕ → Q8Block → ℕ → Said Float
 blockDotSays f w b n =
-    cond (ltb (length w) (bytesK f)) (refused 3)
-    (cond (sumsServe f b) (value (firstDot f w b n))
-    (refused 7))
+    given (no 3) (ltb (length w) (bytesK f))
+    (given (no 7) (not (sumsServe f b))
+    (value (firstDot f w b n)))

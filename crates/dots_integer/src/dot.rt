@@ -19,7 +19,7 @@ ghost use Rattle.halves.specs.Binary16.{widened};
 ghost use Rattle.numbers.specs.Fields.{le16};
 ghost use Rattle.layouts.specs.Formats.{bytesK};
 ghost use Rattle.dots_activation.specs.Blocks.{SmallSums};
-ghost use Rattle.dots_integer.specs.Dots.{hasMinimums, scaledDot, blockDot, sumsServe, blockDotSays};
+ghost use Rattle.dots_integer.specs.Dots.{hasMinimums, scaledDot, blockDot, dotWith, sumsServe, blockDotSays};
 ghost use Rattle.dots_integer.specs.Inner.{subBlocksSum};
 
 // The f16 field at i.
@@ -70,7 +70,7 @@ pub fn block_dot(format: FormatK, w: &[u8], d: f32, qs: &[i8], sums: &[i32]) -> 
 // The same over the places below n.
 pub fn block_dot_below(format: FormatK, w: &[u8], xq: Q8Block, n: usize) -> f32
     requires { ⌜ (length (now w) ≡ bytesK format) × (hasMinimums format ≡ true → SmallSums (xq .bsums)) × (n ≤ 256) ⌝ }
-    ensures { λ r. ⌜ r ≡ blockDot format (now (w .entry)) (xq .d) (xq .qs) (xq .bsums) n ⌝ }
+    ensures { λ r. ⌜ r ≡ dotWith format (now (w .entry)) xq n ⌝ }
 {
     let qs = xq.qs;
     let below = cut(qs, n);
