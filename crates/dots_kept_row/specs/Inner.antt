@@ -7,15 +7,12 @@ use lib.IntN.{ℤ}
 use lib.ListN.{length, getD}
 use lib.Ieee.{Float, nan}
 use Rattle.memory.specs.Lists.{part}
-use Rattle.layouts.specs.Formats.{bytesK}
 use Rattle.layouts.specs.Weights.{block}
 use Rattle.layouts.specs.declared.format.Format.the-variants.{OfK}
 use Rattle.layouts.specs.declared.format.FormatK.{FormatK}
 use Rattle.dots_activation.specs.declared.block.Q8Block.{Q8Block}
 use Rattle.dots_activation.specs.Blocks.{blockOf, SmallSums}
 use Rattle.dots_integer.specs.Dots.{blockDot}
-use Rattle.dots_kept_row.specs.declared.meeting.Meeting.{Meeting}
-use Rattle.dots_kept_row.specs.Meets.{meets}
 
 -- there is room for n blocks
 pub record KeptRoom (n : ℕ) (ds : List Float) (qs sums : List ℤ) : Type 0 where
@@ -45,7 +42,3 @@ dotKept f w ds qs sums t = blockDot f w (getD ds t nan) (part qs (256 * t) 256) 
 -- that of block t of a row of weights
 abbrev pub keptDot : FormatK → List ℕ → List Float → List ℤ → List ℤ → ℕ → Float
 keptDot f w ds qs sums t = dotKept f (block (OfK f) w t) ds qs sums t
-
--- the dot of row o of the weights, n blocks, and the row kept
-abbrev pub keptRowDot : FormatK → Meeting → List ℕ → List Float → List ℤ → List ℤ → ℕ → ℕ → Float
-keptRowDot f m w ds qs sums n o = meets m (keptDot f (part w (o * (n * bytesK f)) (n * bytesK f)) ds qs sums) n

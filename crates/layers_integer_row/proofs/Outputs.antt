@@ -14,8 +14,9 @@ use Rattle.dots_integer.specs.Dots.{dotWith}
 use Rattle.dots_integer_row.specs.Rows.{blockLength, blockAt}
 use Rattle.layers_shape.specs.Shapes.{weightRow}
 use Rattle.dots_kept_row.specs.declared.meeting.Meeting.{Meeting}
-use Rattle.dots_kept_row.specs.Inner.{keptDot, keptRowDot, Keeps}
+use Rattle.dots_kept_row.specs.Inner.{keptDot, Keeps}
 use Rattle.dots_kept_row.proofs.Meets.{meets-ext}
+use Rattle.layers_integer_row.specs.Inner.{keptRowDot}
 use Rattle.layers_integer_row.specs.Outputs.{integerDotAt}
 
 -- a whole block has 256 places

@@ -13,7 +13,8 @@ ghost use Rattle.refusals.specs.Sizes.{mostOut};
 ghost use Rattle.memory.specs.Lists.{table};
 ghost use Rattle.layouts.specs.Formats.{bytesK};
 ghost use Rattle.layers_shape.specs.Shapes.{layerRefusal};
-ghost use Rattle.dots_kept_row.specs.Inner.{keptRowDot, KeptRoom, KeptRow};
+ghost use Rattle.dots_kept_row.specs.Inner.{KeptRoom, KeptRow};
+ghost use Rattle.layers_integer_row.specs.Inner.{keptRowDot};
 ghost use Rattle.layers_integer_row.specs.Outputs.{integerOutputs};
 
 // The outputs of the row of readings kept, a place for each row of weights.

@@ -11,8 +11,9 @@ use Rattle.memory.proofs.Filled.{filled-none, part-length, part-turn}
 use Rattle.memory.proofs.Parts.{within}
 use Rattle.layers_shape.specs.Shapes.{outputs}
 use Rattle.layers_shape.proofs.Fits.{Fits, fits}
-use Rattle.dots_kept_row.specs.Inner.{KeptRoom, Keeps, keptRowDot}
+use Rattle.dots_kept_row.specs.Inner.{KeptRoom, Keeps}
 use Rattle.dots_kept_row.proofs.Blocks.{room-same, kept-by}
+use Rattle.layers_integer_row.specs.Inner.{keptRowDot}
 use Rattle.layers_integer_row.specs.Outputs.{integerDotAt}
 use Rattle.layers_integer_row.proofs.Outputs.{row-same}
 use native.Mathlib.Omega.{arith}

@@ -12,7 +12,8 @@ use Rattle.layouts.proofs.Sizes.{sizes}
 use Rattle.layers_shape.proofs.Fits.{product-small}
 use native.Mathlib.Omega.{arith}
 use Rattle.dots_kept_row.specs.Meets.{meets}
-use Rattle.dots_kept_row.specs.Inner.{KeptRow, keptDot, keptRowDot}
+use Rattle.dots_kept_row.specs.Inner.{KeptRow, keptDot}
+use Rattle.layers_integer_row.specs.Inner.{keptRowDot}
 use Rattle.layers_integer_row.proofs.rows.one_row.Statement.{statement}
 use Rattle.layers_integer_row.proofs.rows.one_row.Tie as tie
 
