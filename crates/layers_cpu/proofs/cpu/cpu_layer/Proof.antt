@@ -20,7 +20,7 @@ enum-told : tie.Need-enum-told
 enum-told c = search needs
 
 all-columns-requires : tie.Need-all-columns-requires
-all-columns-requires c κs = check-passed (c .before .before .cpu-refusal .ensures) (c .enum-told .given .1)
+all-columns-requires c κs = check-passed (c .before .before .before .before .cpu-refusal .ensures) (c .before .before .enum-told .given .1)
 
 same-length : tie.Need-same-length
 same-length c = search needs

@@ -19,7 +19,7 @@ enum-told : tie.Need-enum-told
 enum-told c = search needs
 
 all-rows-requires : tie.Need-all-rows-requires
-all-rows-requires c κs = check-passed (c .before .before .layer-refusal .ensures) (c .enum-told .given .1)
+all-rows-requires c κs = check-passed (c .before .before .before .layer-refusal .ensures) (c .before .enum-told .given .1)
 
 same-length : tie.Need-same-length
 same-length c = search needs
