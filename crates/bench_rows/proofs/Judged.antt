@@ -12,17 +12,17 @@ use borrow.Author.Tests.{eq-eqb, le-ltb}
 use Rattle.refusals.specs.Said.{Said, done, outcomeSays}
 use Rattle.refusals.specs.Refusals.{given, carriedOut}
 use Rattle.refusals.specs.declared.Outcome.{Outcome}
-use Rattle.memory.specs.Lists.{table, filled}
+use Rattle.memory.specs.Lists.{table, filled, every}
 use Rattle.memory.proofs.Filled.{length-filled}
 use Rattle.numbers.specs.Fields.{byteOf}
 use Rattle.readings.specs.Readings.{inverse}
 use Rattle.quantizers.specs.Says.{packedAt, quantizeRefusal, quantizeSays}
 use Rattle.quantizers.specs.declared.target.Target.the-variants.{Q40}
 use Rattle.sums.specs.Says.{sumSays}
-use Rattle.dots_activation.specs.Whole.{elem, every}
+use Rattle.dots_activation.specs.Whole.{elem}
 use Rattle.dots_activation.specs.Blocks.{quantized}
 use Rattle.dots_activation.specs.declared.block.Quantized.{Quantized}
-use Rattle.dots_activation.proofs.Tests.{every-all}
+use Rattle.memory.proofs.Every.{every-all}
 use Rattle.replay_answers.specs.Same.{saysNumber, sameBytes}
 use Rattle.bench_rows.specs.Card.{Row, row, widen, floats, valueOf, writtenBy, firstQuants, answer, card, rowAt, sameNumbers, answered}
 use Rattle.bench_rows.specs.Rows.{meant, judged}

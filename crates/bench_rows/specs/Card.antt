@@ -9,14 +9,14 @@ use lib.IntN.{ℤ, pos}
 use lib.ListN.{length, getD, replicate}
 use lib.Ieee.{Float, binary32, ofBits, toBits, ofInt}
 use Rattle.refusals.specs.Said.{Said, value, refused}
-use Rattle.memory.specs.Lists.{table}
+use Rattle.memory.specs.Lists.{table, every}
 use Rattle.halves.specs.Binary16.{widened, narrowed}
 use Rattle.numbers.specs.Fields.{byteOf}
 use Rattle.readings.specs.Readings.{inverse, quantQ8}
 use Rattle.quantizers.specs.Says.{quantizeSays}
 use Rattle.quantizers.specs.declared.target.Target.the-variants.{Q40}
 use Rattle.sums.specs.Says.{sumSays}
-use Rattle.dots_activation.specs.Whole.{elem, every}
+use Rattle.dots_activation.specs.Whole.{elem}
 use Rattle.dots_activation.specs.Blocks.{quantized}
 use Rattle.dots_activation.specs.declared.block.Q8Block.{Q8Block}
 

@@ -7,7 +7,7 @@ use lib.Dec.{ltb, eqb}
 use lib.ListN.{length, getD}
 use lib.Ieee.{Float, nan, binary32, toBits}
 use Rattle.refusals.specs.Said.{Said, value, refused}
-use Rattle.dots_activation.specs.Whole.{every}
+use Rattle.memory.specs.Lists.{every}
 use Rattle.replay_answers.specs.Payload.{floatAt}
 use Rattle.replay_answers.specs.declared.findings.Finding.{Finding}
 use Rattle.replay_answers.specs.declared.findings.Finding.the-variants.{Same, Differs}

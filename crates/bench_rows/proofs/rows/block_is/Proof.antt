@@ -8,10 +8,10 @@ use lib.Signed.{mag}
 use lib.Ieee.{binary32, toBits}
 use borrow.Author.Needs.{needs}
 use borrow.Author.Tests.{eq-eqb, ne-eqb}
-use Rattle.memory.specs.Lists.{table}
+use Rattle.memory.specs.Lists.{table, every}
 use Rattle.numbers.specs.Fields.{byteOf}
 use Rattle.numbers.proofs.Signed.{read-is}
-use Rattle.dots_activation.specs.Whole.{elem, every}
+use Rattle.dots_activation.specs.Whole.{elem}
 use Rattle.bench_rows.specs.Card.{sameNumbers}
 use Rattle.bench_rows.proofs.rows.block_is.Statement.{statement}
 use Rattle.bench_rows.proofs.rows.block_is.Tie as tie

@@ -1,7 +1,7 @@
 -- `rows::encodes_two` meets its contract: its two encodings, one after the other. Assumes nothing.
 use borrow.Author.Needs.{needs}
 use mathlib.Core.Path.{sym, _∙_}
-use Rattle.dots_activation.specs.Whole.{every}
+use Rattle.memory.specs.Lists.{every}
 use Rattle.bench_rows.specs.Card.{answer, sameNumbers, answered}
 use Rattle.bench_rows.specs.Rows.{meant, judged}
 use Rattle.bench_rows.proofs.rows.encodes_two.Statement.{statement}

@@ -2,7 +2,7 @@
 use borrow.Author.Needs.{needs}
 use mir.Syntax.{w8}
 use Rattle.numbers.proofs.Signed.{read-is}
-use Rattle.dots_activation.specs.Whole.{every}
+use Rattle.memory.specs.Lists.{every}
 use Rattle.bench_rows.specs.Card.{answer, sameNumbers, answered}
 use Rattle.bench_rows.specs.Rows.{meant, judged}
 use Rattle.bench_rows.proofs.rows.gives.Statement.{statement}

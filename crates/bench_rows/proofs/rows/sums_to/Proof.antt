@@ -4,7 +4,7 @@ use borrow.Author.Needs.{needs}
 use mathlib.Core.List.{[], _∷_}
 use lib.Ieee.{Float, binary32, ofBits}
 use Rattle.sums.specs.Says.{sumSays}
-use Rattle.dots_activation.specs.Whole.{every}
+use Rattle.memory.specs.Lists.{every}
 use Rattle.bench_rows.specs.Card.{sameNumbers}
 use Rattle.bench_rows.proofs.Judged.{summed}
 use Rattle.bench_rows.proofs.rows.sums_to.Statement.{statement}

@@ -1,6 +1,6 @@
 -- `rows::widens` meets its contract. Assumes nothing.
 use borrow.Author.Needs.{needs}
-use Rattle.dots_activation.specs.Whole.{every}
+use Rattle.memory.specs.Lists.{every}
 use Rattle.bench_rows.specs.Card.{answer, sameNumbers, answered}
 use Rattle.bench_rows.specs.Rows.{meant, judged}
 use Rattle.bench_rows.proofs.rows.widens.Statement.{statement}
