@@ -10,7 +10,4 @@ use Rattle.layouts.specs.declared.format.Format.{Format}
 
 pub room-for-values : (f : Format) (n room : ℕ) → dequantizeRefusal f n room ≡ done → valuesOf f n ≤ room
 unfolding dequantizeRefusal
-room-for-values f n room e =
-    let g6 = given-passed _ _ _ _ e in
-    let g1 = given-passed _ _ _ _ (g6 .1) in
-    ltb-false _ _ (given-passed _ _ _ _ (g1 .1) .0)
+room-for-values f n room e = ltb-false _ _ (given-passed _ _ _ _ (given-passed _ _ _ _ (given-passed _ _ _ _ e .1) .1) .0)

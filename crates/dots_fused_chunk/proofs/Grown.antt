@@ -59,9 +59,11 @@ module _ (x : List Float) (bs : List ℕ) where
       → runTerms (part x (16 * e) k) (part q (16 * e) k) (getD s e nan) i ≡ blockTerms Q6K x bs (λ n. getD q n (pos 0)) (16 * e + i)
   run-terms e k i s q K u h S = rw (part-at x (16 * e) k i nan h, run-of-16 bs e i k K u (omega arith) s q S)
 
-  -- all of them, of whole numbers that were laid out: the block's own
-  pub laid-out : {A : Type 0} (f : FormatK) (l : List Float) (whole : A → ℤ) (p : ℕ → A) (q : List A) (z : A) → length bs ≡ bytesK f → q ≡ table p 256 → ((i : ℕ) → whole (p i) ≡ quantK f bs i)
-      → lanesFrom l (blockTerms f x bs (λ i. whole (getD q i z))) 256 ≡ lanesFrom l (terms f x bs) 256
-  laid-out {A} f l whole p q z b Q W =
+  -- all of them, of whole numbers that were laid out: the block's own, in the format g that the code was told of
+  pub laid-out : {A : Type 0} {g : FormatK} {p : ℕ → A} {q : List A} (f : FormatK) (l : List Float) (whole : A → ℤ) (z : A) → g ≡ f → length bs ≡ bytesK g → q ≡ table p 256
+      → ((i : ℕ) → whole (p i) ≡ quantK f bs i)
+      → lanesFrom l (blockTerms f x bs (λ i. whole (getD q i z))) 256 ≡ lanesFrom l (terms g x bs) 256
+  laid-out {A} {p = p} f l whole z e b Q W =
       lanes-cong l _ _ 256
-      (λ i h. ap (mul binary32 (getD x i nan)) (ap (λ (a : A). valueOf f bs i (whole a)) (rw Q (getD-table p 256 i z h)) ∙ ap (valueOf f bs i) (W i) ∙ sym (one-block f bs i b h)))
+      (λ i h. ap (mul binary32 (getD x i nan)) (ap (λ (a : A). valueOf f bs i (whole a)) (rw Q (getD-table p 256 i z h)) ∙ ap (valueOf f bs i) (W i) ∙ sym (one-block f bs i (b ∙ ap bytesK e) h)))
+      ∙ ap (λ (k : FormatK). lanesFrom l (terms k x bs) 256) (sym e)

@@ -23,7 +23,7 @@ module _ {A : Type 0} where
       go (suc (suc t)) q = absurd (omega arith)
 
   -- places k and k + 16 are those of turn k
-  own-halves : (k : ℕ) (a b : A) (i : ℕ) → i < 32 → i % 16 ≡ k → Among i (two k a (k + 16) b)
+  pub own-halves : (k : ℕ) (a b : A) (i : ℕ) → i < 32 → i % 16 ≡ k → Among i (two k a (k + 16) b)
   own-halves k a b i h e = go (i / 16) refl
     where
       go : (t : ℕ) → t ≡ i / 16 → Among i (two k a (k + 16) b)
@@ -31,16 +31,18 @@ module _ {A : Type 0} where
       go (suc zero) q = inr (inl (omega arith))
       go (suc (suc t)) q = absurd (omega arith)
 
-  -- ---- after k turns that fill places k and k + 16 q stands there
+  -- ---- after k of 16 turns q stands there, where `turn` says in which a place is filled
 
-  abbrev pub Halves : (ℕ → A) → A → List A → ℕ → Type 0
-  Halves f z q k = Done f z (λ i. i % 16) 32 q k × (k ≤ 16)
+  module _ (turn : ℕ → ℕ) (f : ℕ → A) (z : A) where
+    abbrev pub Pairs : List A → ℕ → Type 0
+    Pairs q k = Done f z turn 32 q k × (k ≤ 16)
 
-  pub halves-none : (f : ℕ → A) (z : A) (q : List A) → length q ≡ 32 → Halves f z q 0
-  halves-none f z q n = (done-none f z (λ i. i % 16) 32 q n, omega arith)
+    pub pairs-none : (q : List A) → length q ≡ 32 → Pairs q 0
+    pairs-none q n = (done-none f z turn 32 q n, omega arith)
 
-  pub halves-more : (f : ℕ → A) (z : A) (q : List A) (k : ℕ) (a b : A) → k < 16 → a ≡ f k → b ≡ f (k + 16) → Halves f z q k → Halves f z (stored q (two k a (k + 16) b)) (k + 1)
-  halves-more f z q k a b h p r d = (done-more f z (λ i. i % 16) 32 q k (two k a (k + 16) b) (d .0) (p, (r, tt)) (own-halves k a b), omega arith)
+    -- a turn more: both of its values are right, and it has no other places
+    pub pairs-more : {p r : ℕ} (q : List A) (k : ℕ) (a b : A) → k < 16 → a ≡ f p → b ≡ f r → ((c d : A) (i : ℕ) → i < 32 → turn i ≡ k → Among i (two p c r d)) → Pairs q k → Pairs (stored q (two p a r b)) (k + 1)
+    pairs-more {p} {r} q k a b h u v own d = (done-more f z turn 32 q k (two p a r b) (d .0) (u, (v, tt)) (own a b), omega arith)
 
-  pub halves-all : (f : ℕ → A) (z : A) (q : List A) (k : ℕ) → 16 ≤ k → Halves f z q k → q ≡ table f 32
-  halves-all f z q k h d = done-all f z (λ i. i % 16) 32 q k (d .0) (λ i l. omega arith)
+    pub pairs-all : (q : List A) (k : ℕ) → 16 ≤ k → ((i : ℕ) → i < 32 → turn i < 16) → Pairs q k → q ≡ table f 32
+    pairs-all q k h few d = done-all f z turn 32 q k (d .0) (λ i l. omega (arith, few i l))

@@ -1,4 +1,3 @@
 -- What several proofs of `quantizers` share.
 pub mod Bytes
-pub mod Refused
 pub mod Unique

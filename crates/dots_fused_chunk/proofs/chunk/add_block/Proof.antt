@@ -1,13 +1,9 @@
 -- `chunk::add_block` meets its contract: each layout its own. Assumes nothing.
-use mathlib.Core.Path.{refl, sym, ap, _∙_}
+use mathlib.Core.Path.{refl, ap, _∙_}
 use native.Mathlib.Omega.{arith}
 use lib.IntN.{pos}
 use Rattle.layouts.specs.Formats.{bytesK}
-use Rattle.layouts.specs.K.{quantQ4K, quantQ6K}
-use Rattle.layouts.specs.declared.format.FormatK.{FormatK}
 use Rattle.layouts.specs.declared.format.FormatK.the-variants.{Q4K, Q6K}
-use Rattle.sums_lanes.specs.Lanes.{lanesFrom}
-use Rattle.dots_fused_chunk.specs.Terms.{terms}
 use Rattle.dots_fused_chunk.proofs.Grown.{laid-out}
 use borrow.Author.Needs.{needs}
 use Rattle.dots_fused_chunk.proofs.chunk.add_block.Statement.{statement}
@@ -23,10 +19,7 @@ slice-aggregate-add-sub-blocks : tie.Need-slice-aggregate-add-sub-blocks
 slice-aggregate-add-sub-blocks c = search needs
 
 add-sub-blocks-requires : tie.Need-add-sub-blocks-requires
-add-sub-blocks-requires c κs =
-    let f = c .before .before in
-    let t = f .before .before .before .before in
-    (t .pre .0, omega (arith, t .pre .1 ∙ ap bytesK (f .enum-told .given .1)), omega arith)
+add-sub-blocks-requires c κs = let t = c .before .before .before .before .before .before in (t .pre .0, omega (arith, t .pre .1 ∙ ap bytesK (c .before .before .enum-told .given .1)), omega arith)
 
 enum-told-2 : tie.Need-enum-told-2
 enum-told-2 c = search needs
@@ -38,32 +31,19 @@ slice-aggregate-add-runs : tie.Need-slice-aggregate-add-runs
 slice-aggregate-add-runs c = search needs
 
 add-runs-requires : tie.Need-add-runs-requires
-add-runs-requires c κs =
-    let f = c .before .before in
-    let t = f .before .before .before .before in
-    (t .pre .0, t .pre .1 ∙ ap bytesK (f .enum-told2 .given .1), omega arith)
+add-runs-requires c κs = let t = c .before .before .before .before .before .before in (t .pre .0, t .pre .1 ∙ ap bytesK (c .before .before .enum-told2 .given .1), omega arith)
 
 returns : tie.Need-returns
 returns c =
     let q = c .before .before in
-    let f = q .before in
-    let t = f .before .before .before .before in
-    let a = t .args in
-    let bs = a .block .now in
-    c .add-sub-blocks .ensures
-    ∙ laid-out (a .x .now) bs Q4K (a .l) pos (quantQ4K bs) (q .quants-q4k .result) 0 (t .pre .1 ∙ ap bytesK (f .enum-told .given .1)) (q .quants-q4k .ensures) (λ i. refl)
-    ∙ ap (λ (g : FormatK). lanesFrom (a .l) (terms g (a .x .now) bs) 256) (sym (f .enum-told .given .1))
+    let t = q .before .before .before .before .before in
+    c .add-sub-blocks .ensures ∙ laid-out (t .args .x .now) (t .args .block .now) Q4K (t .args .l) pos 0 (q .before .enum-told .given .1) (t .pre .1) (q .quants-q4k .ensures) (λ i. refl)
 
 returns-2 : tie.Need-returns-2
 returns-2 c =
     let q = c .before .before in
-    let f = q .before in
-    let t = f .before .before .before .before in
-    let a = t .args in
-    let bs = a .block .now in
-    c .add-runs .ensures
-    ∙ laid-out (a .x .now) bs Q6K (a .l) (λ z. z) (quantQ6K bs) (q .quants-q6k .result) (pos 0) (t .pre .1 ∙ ap bytesK (f .enum-told2 .given .1)) (q .quants-q6k .ensures) (λ i. refl)
-    ∙ ap (λ (g : FormatK). lanesFrom (a .l) (terms g (a .x .now) bs) 256) (sym (f .enum-told2 .given .1))
+    let t = q .before .before .before .before .before in
+    c .add-runs .ensures ∙ laid-out (t .args .x .now) (t .args .block .now) Q6K (t .args .l) (λ z. z) (pos 0) (q .before .enum-told2 .given .1) (t .pre .1) (q .quants-q6k .ensures) (λ i. refl)
 
 pub add-block-spec : {M : Type 1} → statement M
 add-block-spec =

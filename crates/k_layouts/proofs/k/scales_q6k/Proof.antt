@@ -1,9 +1,6 @@
 -- `k::scales_q6k` meets its contract: the places are filled in turn. Assumes nothing.
 use mathlib.Core.Path.{refl, ap, _∙_}
 use Prim.Native.Nat.{_-_}
-use mathlib.Core.List.{List}
-use lib.ListN.{replicate}
-use lib.Ieee.{Float, binary32, ofBits}
 use mir.Syntax.{w8}
 use Rattle.halves.specs.Binary16.{widened}
 use Rattle.numbers.proofs.Signed.{read-is}
@@ -14,9 +11,6 @@ use Rattle.layouts.specs.declared.format.FormatK.the-variants.{Q6K}
 use Rattle.memory.proofs.Filled.{Filling, filling-start, filling-more, filling-done}
 use Rattle.k_layouts.proofs.k.scales_q6k.Statement.{statement}
 use Rattle.k_layouts.proofs.k.scales_q6k.Tie as tie
-
-abbrev zeros : List Float
-zeros = replicate 16 (ofBits binary32 0)
 
 abbrev Inv-loop : tie.InvT-loop
 Inv-loop block d s₀ e₀ s e = Filling (dScale Q6K block) s₀ 16 s e
@@ -37,7 +31,7 @@ f16-to-f32-requires : tie.Need-f16-to-f32-requires Inv-loop μ-loop
 f16-to-f32-requires c κs = search needs
 
 loop-holds : tie.Need-loop-holds Inv-loop μ-loop
-loop-holds c = filling-start (dScale Q6K (c .before .before .before .before .before .args .block .now)) zeros 16 refl
+loop-holds c = filling-start (dScale Q6K (c .before .before .before .before .before .args .block .now)) _ 16 refl
 
 add-signed-byte : tie.Need-add-signed-byte Inv-loop μ-loop
 add-signed-byte c = omega arith
@@ -70,13 +64,13 @@ loop-again c =
     let f = c .before .before .before .before .before in
     let bs = f .before .before .before .before .before .args .block .now in
     let h = c .before .before .before .loop-test .taken in
-    filling-more (dScale Q6K bs) zeros 16 (l .s) (l .e) _ refl (l .inv) h
+    filling-more (dScale Q6K bs) _ 16 (l .s) (l .e) _ refl (l .inv) h
     (rw (f .f16-to-f32 .ensures ∙ ap widened (f .before .le-u16 .ensures), read-is w8 _ (c .before .signed-byte .ok), c .before .signed-byte .ensures))
 
 returns : tie.Need-returns Inv-loop μ-loop
 returns c =
     let l = c .before .loop in
-    filling-done (dScale Q6K (c .before .before .before .before .before .before .before .args .block .now)) zeros 16 (l .s) (l .e) refl (l .inv) (c .loop-test .left)
+    filling-done (dScale Q6K (c .before .before .before .before .before .before .before .args .block .now)) _ 16 (l .s) (l .e) refl (l .inv) (c .loop-test .left)
 
 pub scales-q6k-spec : {M : Type 1} → statement M
 scales-q6k-spec =

@@ -1,23 +1,19 @@
 -- `of32::quants_q4_0` meets its contract: in turn k the neighbours 2 k and 2 k + 1 are filled. Assumes nothing.
 use mathlib.Core.Path.{refl}
-use Prim.Native.Nat.{ℕ, _+_, _-_, _*_, _/_, _≤_}
+use Prim.Native.Nat.{_+_, _-_, _/_}
 use lib.IntN.{pos}
 use lib.ListN.{replicate}
-use Rattle.numbers.proofs.Signed.{byteRead, byte-read}
-use Rattle.memory.proofs.Streams.{Done, done-none, done-more, done-all}
+use Rattle.numbers.proofs.Signed.{byte-read}
 use native.Mathlib.Omega.{arith}
 use Rattle.layouts.specs.Of32.{quant32}
 use Rattle.layouts.specs.declared.format.Format32.the-variants.{Q40}
-use Rattle.layouts.proofs.Two.{two, own-neighbours}
+use Rattle.layouts.proofs.Two.{own-neighbours, Pairs, pairs-none, pairs-more, pairs-all}
 use Rattle.layouts.proofs.Quants.{q40-low, q40-high}
 use Rattle.layouts.proofs.of32.quants_q4_0.Statement.{statement}
 use Rattle.layouts.proofs.of32.quants_q4_0.Tie as tie
 
-abbrev turn : ℕ → ℕ
-turn i = i / 2
-
 abbrev Inv-loop : tie.InvT-loop
-Inv-loop block q₀ k₀ k-end q k = Done (quant32 Q40 block) (pos 0) turn 32 q k × (k ≤ 16)
+Inv-loop block q₀ k₀ k-end q k = Pairs (λ i. i / 2) (quant32 Q40 block) (pos 0) q k
 
 abbrev μ-loop : tie.MeasureT-loop
 μ-loop block q₀ k₀ k-end q k = 16 - k
@@ -26,7 +22,7 @@ sub-k-end : tie.Need-sub-k-end Inv-loop μ-loop
 sub-k-end c = omega arith
 
 loop-holds : tie.Need-loop-holds Inv-loop μ-loop
-loop-holds c = (done-none (quant32 Q40 (c .before .args .block .now)) (pos 0) turn 32 (replicate 32 (pos 0)) refl, omega arith)
+loop-holds c = pairs-none (λ i. i / 2) (quant32 Q40 (c .before .args .block .now)) (pos 0) (replicate 32 (pos 0)) refl
 
 add-b : tie.Need-add-b Inv-loop μ-loop
 add-b c = omega arith
@@ -65,19 +61,14 @@ loop-again : tie.Need-loop-again Inv-loop μ-loop
 loop-again c =
     let m = c .before .before .before .before in
     let bs = m .before .before .args .block .now in
-    let k = m .loop .k in (
-      done-more (quant32 Q40 bs) (pos 0) turn 32 (m .loop .q) k (two (2 * k) (byteRead (c .before .less .result)) (2 * k + 1) (byteRead (c .less2 .result))) (m .loop .inv .0) (
-        byte-read (c .before .less .ok) (c .before .less .ensures) (q40-low bs k),
-        (byte-read (c .less2 .ok) (c .less2 .ensures) (q40-high bs k), tt),
-      )
-          (own-neighbours k (byteRead (c .before .less .result)) (byteRead (c .less2 .result))),
-      omega arith,
-    )
+    let k = m .loop .k in
+    pairs-more (λ i. i / 2) (quant32 Q40 bs) (pos 0) (m .loop .q) k _ _ (omega arith) (byte-read (c .before .less .ok) (c .before .less .ensures) (q40-low bs k)) (byte-read (c .less2 .ok) (c .less2 .ensures) (q40-high bs k)) (own-neighbours k)
+    (m .loop .inv)
 
 returns : tie.Need-returns Inv-loop μ-loop
 returns c =
     let l = c .before .loop in
-    done-all (quant32 Q40 (c .before .before .before .args .block .now)) (pos 0) turn 32 (l .q) (l .k) (l .inv .0) (λ i h. omega (arith, c .loop-test .left))
+    pairs-all (λ i. i / 2) (quant32 Q40 (c .before .before .before .args .block .now)) (pos 0) (l .q) (l .k) (omega (arith, c .loop-test .left)) (λ i h. omega arith) (l .inv)
 
 pub quants-q4-0-spec : {M : Type 1} → statement M
 quants-q4-0-spec =

@@ -1,6 +1,6 @@
 -- `of32::quants_q5_0` meets its contract: in turn k the places k and k + 16 are filled. Assumes nothing.
 use mathlib.Core.Path.{_≡_, refl}
-use Prim.Native.Nat.{_+_, _-_, _<_}
+use Prim.Native.Nat.{_+_, _-_, _%_, _<_}
 use lib.IntN.{pos}
 use lib.ListN.{replicate}
 use Rattle.numbers.specs.Fields.{le32}
@@ -9,13 +9,13 @@ use native.Mathlib.Omega.{arith}
 use borrow.Author.Needs.{needs}
 use Rattle.layouts.specs.Of32.{quant32}
 use Rattle.layouts.specs.declared.format.Format32.the-variants.{Q50}
-use Rattle.layouts.proofs.Two.{Halves, halves-none, halves-more, halves-all}
+use Rattle.layouts.proofs.Two.{own-halves, Pairs, pairs-none, pairs-more, pairs-all}
 use Rattle.layouts.proofs.Quants.{apart-low, apart-high, q50-at}
 use Rattle.layouts.proofs.of32.quants_q5_0.Statement.{statement}
 use Rattle.layouts.proofs.of32.quants_q5_0.Tie as tie
 
 abbrev Inv-loop : tie.InvT-loop
-Inv-loop block high q₀ k₀ q k = Halves (quant32 Q50 block) (pos 0) q k
+Inv-loop block high q₀ k₀ q k = Pairs (λ i. i % 16) (quant32 Q50 block) (pos 0) q k
 
 abbrev μ-loop : tie.MeasureT-loop
 μ-loop block high q₀ k₀ q k = 16 - k
@@ -36,7 +36,7 @@ le-u32-requires : tie.Need-le-u32-requires Inv-loop μ-loop
 le-u32-requires c κs = search needs
 
 loop-holds : tie.Need-loop-holds Inv-loop μ-loop
-loop-holds c = halves-none (quant32 Q50 (c .before .before .before .before .before .before .args .block .now)) (pos 0) (replicate 32 (pos 0)) refl
+loop-holds c = pairs-none (λ i. i % 16) (quant32 Q50 (c .before .before .before .before .before .before .args .block .now)) (pos 0) (replicate 32 (pos 0)) refl
 
 add-b : tie.Need-add-b Inv-loop μ-loop
 add-b c = omega arith
@@ -87,14 +87,14 @@ loop-again c =
     let k = m .loop .k in
     let h : k < 16 = c .before .before .before .loop-test .taken in
     let e : m .before .le-u32 .result ≡ le32 bs 2 = m .before .le-u32 .ensures in
-    halves-more (quant32 Q50 bs) (pos 0) (m .loop .q) k _ _ h
+    pairs-more (λ i. i % 16) (quant32 Q50 bs) (pos 0) (m .loop .q) k _ _ h
     (byte-read (c .before .with-high-bit .ok) (rw e at (c .before .with-high-bit .ensures)) (q50-at bs k _ (apart-low bs 6 k h)))
-    (byte-read (c .with-high-bit2 .ok) (rw e at (c .with-high-bit2 .ensures)) (q50-at bs (k + 16) _ (apart-high bs 6 k h))) (m .loop .inv)
+    (byte-read (c .with-high-bit2 .ok) (rw e at (c .with-high-bit2 .ensures)) (q50-at bs (k + 16) _ (apart-high bs 6 k h))) (own-halves k) (m .loop .inv)
 
 returns : tie.Need-returns Inv-loop μ-loop
 returns c =
     let l = c .before .loop in
-    halves-all (quant32 Q50 (c .before .before .before .before .before .before .before .before .args .block .now)) (pos 0) (l .q) (l .k) (c .loop-test .left) (l .inv)
+    pairs-all (λ i. i % 16) (quant32 Q50 (c .before .before .before .before .before .before .before .before .args .block .now)) (pos 0) (l .q) (l .k) (c .loop-test .left) (λ i h. omega arith) (l .inv)
 
 pub quants-q5-0-spec : {M : Type 1} → statement M
 quants-q5-0-spec =

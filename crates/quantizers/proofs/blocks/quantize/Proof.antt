@@ -1,14 +1,19 @@
 -- `blocks::quantize` meets its contract: a refusal, or every block quantised. Assumes nothing.
-use mathlib.Core.Path.{ap, _∙_}
+use mathlib.Core.Path.{_≡_, ap, _∙_}
 use mathlib.Core.List.{List}
-use Prim.Native.Nat.{ℕ}
+use Prim.Native.Nat.{ℕ, _≤_}
+use borrow.Author.Tests.{ltb-false}
 use Rattle.refusals.specs.Said.{done}
-use Rattle.refusals.proofs.Laws.{check-passed, refused-out, done-out}
+use Rattle.refusals.proofs.Laws.{given-passed, check-passed, refused-out, done-out}
 use borrow.Author.Needs.{needs}
-use Rattle.quantizers.specs.Says.{quantizeSays}
-use Rattle.quantizers.proofs.Refused.{room-for-bytes}
+use Rattle.quantizers.specs.Says.{bytesFor, quantizeRefusal, quantizeSays}
+use Rattle.quantizers.specs.declared.target.Target.{Target}
 use Rattle.quantizers.proofs.blocks.quantize.Statement.{statement}
 use Rattle.quantizers.proofs.blocks.quantize.Tie as tie
+
+room-for-bytes : (t : Target) (n room : ℕ) → quantizeRefusal t n room ≡ done → bytesFor t n ≤ room
+unfolding quantizeRefusal
+room-for-bytes t n room e = ltb-false _ _ (given-passed _ _ _ _ (given-passed _ _ _ _ (given-passed _ _ _ _ e .1) .1) .0)
 
 quantize-refusal-requires : tie.Need-quantize-refusal-requires
 quantize-refusal-requires c κs = search needs

@@ -1,8 +1,7 @@
 -- `blocks::quantize_refusal` meets its contract: the checks in their order. Assumes nothing.
-use mathlib.Core.Path.{_≡_, sym, ap, _∙_}
-use mathlib.Core.Bool.{not}
+use mathlib.Core.Path.{_≡_, ap, _∙_}
 use borrow.Author.Tests.{lt-ltb, le-ltb, eq-eqb, ne-eqb}
-use Rattle.refusals.proofs.Laws.{given-yes, given-no}
+use Rattle.refusals.specs.Refusals.{given}
 use native.Mathlib.Omega.{arith}
 use borrow.Author.Needs.{needs}
 use Rattle.quantizers.specs.Says.{quantizeRefusal}
@@ -14,12 +13,12 @@ use Rattle.quantizers.proofs.blocks.quantize_refusal.Statement.{stateme
 use Rattle.quantizers.proofs.blocks.quantize_refusal.Tie as tie
 
 returns : tie.Need-returns
-unfolding quantizeRefusal
-returns c = sym (given-yes _ _ _ (lt-ltb _ _ (c .if1 .taken)))
+unfolding quantizeRefusal given
+returns c = simp (lt-ltb _ _ (c .if1 .taken))
 
 returns-2 : tie.Need-returns-2
-unfolding quantizeRefusal
-returns-2 c = sym (given-no _ _ _ (le-ltb _ _ (c .before .if1 .left)) ∙ given-yes _ _ _ (ap not (ne-eqb _ _ (c .if2 .taken))))
+unfolding quantizeRefusal given
+returns-2 c = simp (le-ltb _ _ (c .before .if1 .left), ne-eqb _ _ (c .if2 .taken))
 
 format-of-requires : tie.Need-format-of-requires
 format-of-requires c κs = search needs
@@ -37,20 +36,12 @@ mul-if3 c =
     record { fits = few (t .args .n) 32 (c .block-bytes .result) (omega (arith, c .before .before .before .if1 .left)) (omega (arith, least-32 (formatOf (t .args .target)), size-is c)) }
 
 returns-3 : tie.Need-returns-3
-unfolding quantizeRefusal
-returns-3 c =
-    sym
-    (given-no _ _ _ (le-ltb _ _ (c .before .before .before .before .if1 .left))
-    ∙ given-no _ _ _ (ap not (eq-eqb _ _ (c .before .before .before .if2 .left)))
-    ∙ given-yes _ _ _ (lt-ltb _ _ (rw (size-is (c .before)) at (c .if3 .taken))))
+unfolding quantizeRefusal given
+returns-3 c = simp (le-ltb _ _ (c .before .before .before .before .if1 .left), eq-eqb _ _ (c .before .before .before .if2 .left), lt-ltb _ _ (rw (size-is (c .before)) at (c .if3 .taken)))
 
 returns-4 : tie.Need-returns-4
-unfolding quantizeRefusal
-returns-4 c =
-    sym
-    (given-no _ _ _ (le-ltb _ _ (c .before .before .before .before .if1 .left))
-    ∙ given-no _ _ _ (ap not (eq-eqb _ _ (c .before .before .before .if2 .left)))
-    ∙ given-no _ _ _ (le-ltb _ _ (rw (size-is (c .before)) at (c .if3 .left))))
+unfolding quantizeRefusal given
+returns-4 c = simp (le-ltb _ _ (c .before .before .before .before .if1 .left), eq-eqb _ _ (c .before .before .before .if2 .left), le-ltb _ _ (rw (size-is (c .before)) at (c .if3 .left)))
 
 pub quantize-refusal-spec : {M : Type 1} → statement M
 quantize-refusal-spec =
