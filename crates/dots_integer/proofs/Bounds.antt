@@ -116,9 +116,9 @@ module _ (w : List ℕ) (bytes : (i : ℕ) → getD w i 0 < 256) where
   unfolding quantQ4K
   quant-q4k i = nibble-small (getD w (16 + (32 * (i / 64) + i % 32)) 0) (i / 32 % 2) (bytes (16 + (32 * (i / 64) + i % 32)))
 
-  scale-q6k : (i : ℕ) → Within 128 (scaleQ6K w i)
+  scale-q6k : (e : ℕ) → Within 128 (scaleQ6K w e)
   unfolding scaleQ6K
-  scale-q6k i = let k = 192 + (8 * (i / 128) + (i % 32 / 16 + 2 * (i % 128 / 32))) in signed-within (getD w k 0) (bytes k)
+  scale-q6k e = signed-within (getD w (192 + e) 0) (bytes (192 + e))
 
   quant-q6k : (i : ℕ) → Within 32 (quantQ6K w i)
   unfolding quantQ6K
@@ -134,7 +134,7 @@ module _ (w : List ℕ) (bytes : (i : ℕ) → getD w i 0 < 256) where
 
   pub scale-within : (f : FormatK) (i : ℕ) → Within (mostScale f) (scaleK f w i)
   scale-within Q4K i = pos-within (scale-q4k (i / 32))
-  scale-within Q6K i = scale-q6k i
+  scale-within Q6K i = scale-q6k (i / 16)
 
   pub quant-within-k : (f : FormatK) (i : ℕ) → Within (mostQuant f) (quantK f w i)
   quant-within-k Q4K i = pos-within (quant-q4k i)
@@ -143,7 +143,7 @@ module _ (w : List ℕ) (bytes : (i : ℕ) → getD w i 0 < 256) where
   -- activation quants within X: the sum over at most 256 places
   pub sum-within-k : (f : FormatK) (X : ℕ) (x : List ℤ) (n : ℕ) → n ≤ 256 → ((i : ℕ) → i < n → Within X (elem x i)) → Within (256 * (mostScale f * (mostQuant f * X))) (wholeSum f w x n)
   sum-within-k f X x n h q =
-      within (sum-within (weighedAt (scaleK f w) (quantK f w) x) (mostScale f * (mostQuant f * X)) n (λ i p. mul-within (scale-within f i) (mul-within (quant-within-k f i) (q i p)))) (mul-le-mul-right (mostScale f * (mostQuant f * X)) h)
+      within (sum-within (weighedAt f w (quantK f w) x) (mostScale f * (mostQuant f * X)) n (λ i p. mul-within (scale-within f i) (mul-within (quant-within-k f i) (q i p)))) (mul-le-mul-right (mostScale f * (mostQuant f * X)) h)
 
   -- From our quantizer A stays within 30,723,840 ..
   pub a-within : (xs : List Float) (n : ℕ) → n ≤ 256 → Within 30723840 (wholeSum Q4K w (quantsOf xs) n)

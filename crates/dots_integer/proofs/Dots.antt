@@ -7,7 +7,7 @@ use lib.Dec.{ltb}
 use lib.IntN.{ℤ, pos}
 use lib.Ieee.{Float, binary32, mul, sub, ofInt}
 use Rattle.memory.specs.Lists.{table}
-use Rattle.layouts.specs.K.{scaleK, quantK}
+use Rattle.layouts.specs.K.{quantK}
 use Rattle.layouts.specs.declared.format.FormatK.{FormatK}
 use Rattle.dots_activation.specs.Whole.{elem}
 use Rattle.dots_integer.specs.Dots.{scaledSum, scaledDot, blockDot}
@@ -24,4 +24,4 @@ less-is {a} {b} {x} {y} p q = ap (λ (v : Float). sub binary32 v b) p ∙ ap (su
 pub cut-dot : (f : FormatK) (w : List ℕ) (dx : Float) (qs below sums : List ℤ) (n : ℕ) → n ≤ 256 → below ≡ table (λ i. cond (ltb i n) (elem qs i) (pos 0)) 256
     → blockDot f w dx below sums 256 ≡ blockDot f w dx qs sums n
 unfolding blockDot
-cut-dot f w dx qs below sums n h e = ap (scaledDot f w dx sums) (cut-sum (scaleK f w) (quantK f w) qs below n h e)
+cut-dot f w dx qs below sums n h e = ap (scaledDot f w dx sums) (cut-sum f w (quantK f w) qs below n h e)

@@ -1,78 +1,72 @@
 -- The whole-number sum by stretches, sub-blocks or runs: a scale times the sum of its stretch's products is the sum of what its places weigh. Assumes nothing.
-use mathlib.Core.Path.{_≡_, refl, sym, ap, _∙_}
+use mathlib.Core.Path.{_≡_, sym, ap, _∙_}
 use mathlib.Core.Bool.{Bool, cond}
 use mathlib.Core.List.{List}
 use Prim.Native.Nat.{ℕ, _+_, _*_, _/_, _≤_, _<_}
+use native.Mathlib.Nat.{mul-comm}
 use native.Mathlib.Omega.{arith}
 use borrow.Author.Tests.{lt-ltb, le-ltb}
+use lib.Arith.{digits-div}
 use lib.Dec.{ltb}
 use lib.IntN.{ℤ, pos, _*ℤ_, *ℤ-zero}
 use lib.ListN.{getD}
 use Rattle.memory.specs.Lists.{table}
 use Rattle.memory.proofs.Filled.{getD-table}
-use Rattle.numbers.specs.Fields.{signed}
-use Rattle.layouts.specs.K.{scaleQ4K, scaleQ6K, quantQ6K}
-use Rattle.k_layouts.proofs.Scales.{scale-run}
+use Rattle.layouts.specs.Formats.{runLength}
+use Rattle.layouts.specs.K.{scaleIn, scaleK}
+use Rattle.layouts.specs.declared.format.FormatK.{FormatK}
 use Rattle.dots_activation.specs.Whole.{elem, sumℤ}
-use Rattle.dots_integer.specs.Dots.{weighedAt}
-use Rattle.dots_integer.specs.Inner.{subBlocksSum}
 use Rattle.dots_activation.proofs.Ranges.{sum-same, sum-scale, sum-runs, sum-cut}
+use Rattle.dots_integer.specs.Dots.{weighedAt}
+use Rattle.dots_integer.specs.Inner.{sumOf}
 
-module _ (s q : ℕ → ℤ) (x : List ℤ) where
+-- the places of a list that a rule made
+pub table-at : {A : Type 0} {l : List A} (g : ℕ → A) (d : A) → l ≡ table g 256 → (i : ℕ) → i < 256 → getD l i d ≡ g i
+table-at {A} {l} g d e i h = ap (λ (m : List A). getD m i d) e ∙ getD-table g 256 i d h
+
+-- the quant at place i of bytes q
+abbrev pub byteOf : List ℕ → ℕ → ℤ
+byteOf q i = pos (getD q i 0)
+
+module _ (f : FormatK) (w : List ℕ) (q : ℕ → ℤ) (x : List ℤ) where
   -- what stretch j of R places weighs
-  abbrev pub runWeighs : ℕ → ℕ → ℤ
-  runWeighs R j = sumℤ (λ (l : ℕ). weighedAt s q x (R * j + l)) R
+  abbrev pub stretchWeighs : ℕ → ℕ → ℤ
+  stretchWeighs R j = sumℤ (λ (l : ℕ). weighedAt f w q x (R * j + l)) R
 
-  -- a stretch with one scale c, whose products are p
-  pub run-is : (R j : ℕ) (c : ℤ) (p : ℕ → ℤ) → ((l : ℕ) → l < R → c ≡ s (R * j + l)) → ((l : ℕ) → l < R → p l ≡ q (R * j + l) *ℤ elem x (R * j + l)) → c *ℤ sumℤ p R ≡ runWeighs R j
-  run-is R j c p e k = sum-scale c p R ∙ sum-same (λ l. c *ℤ p l) (λ l. weighedAt s q x (R * j + l)) R (λ l h. ap (λ (z : ℤ). z *ℤ p l) (e l h) ∙ ap (λ (z : ℤ). s (R * j + l) *ℤ z) (k l h))
+  -- a stretch with one scale, c
+  pub stretch-is : (R j : ℕ) (c : ℤ) → R ≡ runLength f → c ≡ scaleIn f w j → c *ℤ sumℤ (λ (l : ℕ). q (R * j + l) *ℤ elem x (R * j + l)) R ≡ stretchWeighs R j
+  stretch-is R j c r e =
+      sum-scale c p R ∙ sum-same (λ l. c *ℤ p l) (λ l. weighedAt f w q x (R * j + l)) R (λ l h. ap (λ (z : ℤ). z *ℤ p l) (e ∙ ap (scaleIn f w) (same l h)))
+    where
+      p : ℕ → ℤ
+      p l = q (R * j + l) *ℤ elem x (R * j + l)
+
+      same : (l : ℕ) → l < R → j ≡ (R * j + l) / runLength f
+      same l h = sym (rw (← r, mul-comm R j) (digits-div j h))
 
   -- k stretches of R are all the places below R * k
-  pub runs-are : (R k : ℕ) → sumℤ (runWeighs R) k ≡ sumℤ (weighedAt s q x) (R * k)
-  runs-are R k = sum-runs (weighedAt s q x) R k
+  pub stretches-are : (R k : ℕ) → sumℤ (stretchWeighs R) k ≡ sumℤ (weighedAt f w q x) (R * k)
+  stretches-are R k = sum-runs (weighedAt f w q x) R k
+
+  -- other quants that are the same
+  pub laid-out : (v : ℕ → ℤ) → ((i : ℕ) → i < 256 → q i ≡ v i) → sumOf f w q x ≡ sumOf f w v x
+  laid-out v e = sum-same (weighedAt f w q x) (weighedAt f w v x) 256 (λ i h. ap (λ (z : ℤ). scaleK f w i *ℤ (z *ℤ elem x i)) (e i h))
 
   -- what an activation quant z weighs at place i
   abbrev weighs : ℕ → ℤ → ℤ
-  weighs i z = s i *ℤ (q i *ℤ z)
+  weighs i z = scaleK f w i *ℤ (q i *ℤ z)
 
-  -- quants that are 0 from n on: the sum stops there
-  pub cut-sum : (y : List ℤ) (n : ℕ) → n ≤ 256 → y ≡ table (λ i. cond (ltb i n) (elem x i) (pos 0)) 256 → sumℤ (weighedAt s q y) 256 ≡ sumℤ (weighedAt s q x) n
+  -- activation quants that are 0 from n on: the sum stops there
+  pub cut-sum : (y : List ℤ) (n : ℕ) → n ≤ 256 → y ≡ table (λ i. cond (ltb i n) (elem x i) (pos 0)) 256 → sumOf f w q y ≡ sumℤ (weighedAt f w q x) n
   cut-sum y n h e =
-      sum-cut (weighedAt s q y) n 256 h (λ i b p. ap (weighs i) (past i b p) ∙ ap (λ (z : ℤ). s i *ℤ z) (*ℤ-zero (q i)) ∙ *ℤ-zero (s i))
-      ∙ sum-same (weighedAt s q y) (weighedAt s q x) n (λ i p. ap (weighs i) (kept i p))
+      sum-cut (weighedAt f w q y) n 256 h (λ i b p. ap (weighs i) (past i b p) ∙ ap (λ (z : ℤ). scaleK f w i *ℤ z) (*ℤ-zero (q i)) ∙ *ℤ-zero (scaleK f w i))
+      ∙ sum-same (weighedAt f w q y) (weighedAt f w q x) n (λ i p. ap (weighs i) (kept i p))
     where
       at : (i : ℕ) → i < 256 → elem y i ≡ cond (ltb i n) (elem x i) (pos 0)
-      at i p = ap (λ (l : List ℤ). elem l i) e ∙ getD-table (λ k. cond (ltb k n) (elem x k) (pos 0)) 256 i (pos 0) p
+      at = table-at (λ i. cond (ltb i n) (elem x i) (pos 0)) (pos 0) e
 
       past : (i : ℕ) → n ≤ i → i < 256 → elem y i ≡ pos 0
       past i b p = at i p ∙ ap (λ (t : Bool). cond t (elem x i) (pos 0)) (le-ltb i n b)
 
       kept : (i : ℕ) → i < n → elem y i ≡ elem x i
       kept i p = at i (omega arith) ∙ ap (λ (t : Bool). cond t (elem x i) (pos 0)) (lt-ltb i n p)
-
--- ---- sub-blocks of 32, the quants as bytes q
-
--- the scale and the quant at place i
-abbrev pub scaleOf : List ℕ → ℕ → ℤ
-scaleOf w i = pos (scaleQ4K w (i / 32))
-
-abbrev pub byteOf : List ℕ → ℕ → ℤ
-byteOf q i = pos (getD q i 0)
-
-pub sub-block-is : (w q : List ℕ) (x : List ℤ) (j u : ℕ) → u ≡ scaleQ4K w j → pos u *ℤ sumℤ (λ (l : ℕ). byteOf q (32 * j + l) *ℤ elem x (32 * j + l)) 32 ≡ runWeighs (scaleOf w) (byteOf q) x 32 j
-sub-block-is w q x j u e = run-is (scaleOf w) (byteOf q) x 32 j (pos u) (λ l. byteOf q (32 * j + l) *ℤ elem x (32 * j + l)) (λ l b. ap pos (e ∙ ap (scaleQ4K w) (same l b))) (λ l b. refl)
-  where
-    same : (l : ℕ) → l < 32 → j ≡ (32 * j + l) / 32
-    same l b = omega arith
-
--- the quants that v gives, laid out as q
-pub laid-out : (w q : List ℕ) (v : ℕ → ℕ) (x : List ℤ) → q ≡ table v 256 → subBlocksSum w q x ≡ sumℤ (weighedAt (scaleOf w) (λ i. pos (v i)) x) 256
-laid-out w q v x e = sum-same (weighedAt (scaleOf w) (byteOf q) x) (weighedAt (scaleOf w) (λ i. pos (v i)) x) 256 (λ i h. ap (λ (z : ℕ). scaleOf w i *ℤ (pos z *ℤ elem x i)) (ap (λ (l : List ℕ). getD l i 0) e ∙ getD-table v 256 i 0 h))
-
--- ---- Q6_K: runs of 16, the quants as signed bytes q
-
-pub run-q6k : (w : List ℕ) (q x : List ℤ) (e : ℕ) (c : ℤ) → e < 16 → c ≡ signed (getD w (192 + e) 0) → q ≡ table (quantQ6K w) 256
-    → c *ℤ sumℤ (λ (l : ℕ). elem q (16 * e + l) *ℤ elem x (16 * e + l)) 16 ≡ runWeighs (scaleQ6K w) (quantQ6K w) x 16 e
-run-q6k w q x e c h s k =
-    run-is (scaleQ6K w) (quantQ6K w) x 16 e c (λ l. elem q (16 * e + l) *ℤ elem x (16 * e + l)) (λ l b. s ∙ sym (scale-run w e l h b))
-    (λ l b. ap (λ (z : ℤ). z *ℤ elem x (16 * e + l)) (ap (λ (l′ : List ℤ). elem l′ (16 * e + l)) k ∙ getD-table (quantQ6K w) 256 (16 * e + l) (pos 0) (omega arith)))

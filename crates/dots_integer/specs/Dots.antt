@@ -1,6 +1,6 @@
 -- Document 01, "Readings to small integers": the dot of a packed block and an activation block. Definitions only.
 use Prim.Native.Nat.{ℕ, min}
-use mathlib.Core.Bool.{Bool, true, false, not, cond}
+use mathlib.Core.Bool.{Bool, true, not, cond}
 use mathlib.Core.List.{List}
 use lib.Dec.{ltb}
 use lib.IntN.{ℤ, pos, _*ℤ_}
@@ -8,26 +8,20 @@ use lib.ListN.{length, take}
 use lib.Ieee.{Float, binary32, mul, sub, ofInt}
 use Rattle.refusals.specs.Said.{Said, value, no}
 use Rattle.refusals.specs.Refusals.{given}
-use Rattle.layouts.specs.Formats.{bytesK}
+use Rattle.layouts.specs.Formats.{bytesK, hasMinimums}
 use Rattle.layouts.specs.K.{quantK, scaleK, minimumQ4K, dOf, dminOf}
 use Rattle.layouts.specs.declared.format.FormatK.{FormatK}
-use Rattle.layouts.specs.declared.format.FormatK.the-variants.{Q4K, Q6K}
 use Rattle.dots_activation.specs.declared.block.Q8Block.{Q8Block}
 use Rattle.dots_activation.specs.Whole.{elem, sumℤ}
 use Rattle.dots_activation.specs.Blocks.{sumsRight}
 
--- whether a format's sub-blocks have minimums
-abbrev pub hasMinimums : FormatK → Bool
-hasMinimums Q4K = true
-hasMinimums Q6K = false
-
 -- scale times q times activation quant at place i
-abbrev pub weighedAt : (ℕ → ℤ) → (ℕ → ℤ) → List ℤ → ℕ → ℤ
-weighedAt scale q qs i = scale i *ℤ (q i *ℤ elem qs i)
+abbrev pub weighedAt : FormatK → List ℕ → (ℕ → ℤ) → List ℤ → ℕ → ℤ
+weighedAt f w q qs i = scaleK f w i *ℤ (q i *ℤ elem qs i)
 
 -- A and B: the sum of scale times q times activation quant over the places below n
 abbrev pub wholeSum : FormatK → List ℕ → List ℤ → ℕ → ℤ
-wholeSum f w qs n = sumℤ (weighedAt (scaleK f w) (quantK f w) qs) n
+wholeSum f w qs n = sumℤ (weighedAt f w (quantK f w) qs) n
 
 -- M uses all eight sums
 abbrev pub minimumSum : List ℕ → List ℤ → ℤ

@@ -11,16 +11,17 @@ use refusals::Answer;
 ghost use mathlib.Core.Path.{_≡_};
 ghost use Prim.Native.Nat.{_+_, _≤_, _<_, min};
 ghost use mathlib.Core.Bool.{true};
-ghost use mathlib.Core.List.{List};
-ghost use lib.IntN.{ℤ};
-ghost use lib.ListN.{length};
+ghost use lib.IntN.{pos};
+ghost use lib.ListN.{length, getD};
 ghost use Rattle.refusals.specs.Said.{saidBy};
 ghost use Rattle.halves.specs.Binary16.{widened};
 ghost use Rattle.numbers.specs.Fields.{le16};
-ghost use Rattle.layouts.specs.Formats.{bytesK};
+ghost use Rattle.layouts.specs.Formats.{bytesK, hasMinimums};
+ghost use Rattle.layouts.specs.K.{dOf};
+ghost use Rattle.dots_activation.specs.Whole.{elem};
 ghost use Rattle.dots_activation.specs.Blocks.{SmallSums};
-ghost use Rattle.dots_integer.specs.Dots.{hasMinimums, scaledDot, blockDot, dotWith, sumsServe, blockDotSays};
-ghost use Rattle.dots_integer.specs.Inner.{subBlocksSum};
+ghost use Rattle.dots_integer.specs.Dots.{scaledSum, scaledDot, blockDot, dotWith, sumsServe, blockDotSays};
+ghost use Rattle.dots_integer.specs.Inner.{sumOf};
 
 // The f16 field at i.
 fn half_at(w: &[u8], i: usize) -> f32
@@ -31,23 +32,23 @@ fn half_at(w: &[u8], i: usize) -> f32
 }
 
 // The dot of a block with minimums, whose quants are q.
-fn dot_with_minimums(w: &[u8], q: &[u8; 256], d: f32, qs: &[i8], sums: &[i32]) -> f32
-    requires { ⌜ (length (now w) ≡ 144) × (length (now qs) ≡ 256) × (length (now sums) ≡ 8) × SmallSums (now sums) ⌝ }
+fn dot_of_sub_blocks(w: &[u8], q: &[u8; 256], d: f32, qs: &[i8], sums: &[i32]) -> f32
+    requires { ⌜ (16 ≤ length (now w)) × (length (now qs) ≡ 256) × (length (now sums) ≡ 8) × SmallSums (now sums) ⌝ }
     ensures { λ r. ⌜ r ≡ scaledDot FormatK.Q4K (now (w .entry)) d (now (sums .entry))
-        (subBlocksSum (now (w .entry)) (now (q .entry)) (now (qs .entry))) ⌝ }
+        (sumOf FormatK.Q4K (now (w .entry)) (λ i. pos (getD (now (q .entry)) i 0)) (now (qs .entry))) ⌝ }
 {
     let a = numbers::whole_to_f32(sum_by_sub_blocks(w, q, qs));
     let m = numbers::whole_to_f32(minimum_sum(w, sums));
     half_at(w, 0) * d * a - half_at(w, 2) * d * m
 }
 
-// The dot of a Q6_K block, which looks at no sums.
-fn dot_of_runs(w: &[u8], d: f32, qs: &[i8]) -> f32
+// The dot of a Q6_K block, whose quants are q. It looks at no sums.
+fn dot_of_runs(w: &[u8], q: &[i8; 256], d: f32, qs: &[i8]) -> f32
     requires { ⌜ (length (now w) ≡ 210) × (length (now qs) ≡ 256) ⌝ }
-    ensures { λ r. ⌜ ((sums : List ℤ) → r
-        ≡ blockDot FormatK.Q6K (now (w .entry)) d (now (qs .entry)) sums 256) ⌝ }
+    ensures { λ r. ⌜ r ≡ scaledSum (dOf FormatK.Q6K (now (w .entry))) d
+        (sumOf FormatK.Q6K (now (w .entry)) (elem (now (q .entry))) (now (qs .entry))) ⌝ }
 {
-    let b = numbers::whole_to_f32(sum_by_runs(w, qs));
+    let b = numbers::whole_to_f32(sum_by_runs(w, q, qs));
     half_at(w, 208) * d * b
 }
 
@@ -61,9 +62,12 @@ pub fn block_dot(format: FormatK, w: &[u8], d: f32, qs: &[i8], sums: &[i32]) -> 
     match format {
         FormatK::Q4K => {
             let q = k_layouts::quants_q4k(w);
-            dot_with_minimums(w, &q, d, qs, sums)
+            dot_of_sub_blocks(w, &q, d, qs, sums)
         }
-        FormatK::Q6K => dot_of_runs(w, d, qs),
+        FormatK::Q6K => {
+            let q = k_layouts::quants_q6k(w);
+            dot_of_runs(w, &q, d, qs)
+        }
     }
 }
 

@@ -12,8 +12,8 @@ ghost use lib.ListN.{length, getD};
 ghost use Rattle.memory.specs.Lists.{table};
 ghost use Rattle.dots_activation.specs.Whole.{elem, sumℤ, Within};
 ghost use Rattle.dots_activation.specs.Blocks.{SmallSums};
-ghost use Rattle.dots_integer.specs.Dots.{wholeSum, minimumSum};
-ghost use Rattle.dots_integer.specs.Inner.{subBlocksSum};
+ghost use Rattle.dots_integer.specs.Dots.{minimumSum};
+ghost use Rattle.dots_integer.specs.Inner.{sumOf};
 
 // A byte times a quant and another byte times another quant.
 fn two_products(a: u8, x: i8, b: u8, y: i8) -> i32
@@ -66,10 +66,10 @@ fn run(q: &[i8; 256], x: &[i8], e: usize) -> i32
     s
 }
 
-// The whole-number sum over all places of a block whose quants are q: a scale for each sub-block.
+// The whole-number sum over all places of a block with minimums, whose quants are q: a scale for each sub-block.
 pub(crate) fn sum_by_sub_blocks(w: &[u8], q: &[u8; 256], x: &[i8]) -> i32
-    requires { ⌜ (length (now w) ≡ 144) × (length (now x) ≡ 256) ⌝ }
-    ensures { λ r. ⌜ r ≡ subBlocksSum (now (w .entry)) (now (q .entry)) (now (x .entry)) ⌝ }
+    requires { ⌜ (16 ≤ length (now w)) × (length (now x) ≡ 256) ⌝ }
+    ensures { λ r. ⌜ r ≡ sumOf FormatK.Q4K (now (w .entry)) (λ i. pos (getD (now (q .entry)) i 0)) (now (x .entry)) ⌝ }
 {
     let mut a: i32 = 0;
     for j in 0..8usize {
@@ -78,15 +78,14 @@ pub(crate) fn sum_by_sub_blocks(w: &[u8], q: &[u8; 256], x: &[i8]) -> i32
     a
 }
 
-// Q6_K's: a scale for each run.
-pub(crate) fn sum_by_runs(w: &[u8], x: &[i8]) -> i32
+// That of a Q6_K block, whose quants are q: a scale for each run.
+pub(crate) fn sum_by_runs(w: &[u8], q: &[i8; 256], x: &[i8]) -> i32
     requires { ⌜ (length (now w) ≡ 210) × (length (now x) ≡ 256) ⌝ }
-    ensures { λ r. ⌜ r ≡ wholeSum FormatK.Q6K (now (w .entry)) (now (x .entry)) 256 ⌝ }
+    ensures { λ r. ⌜ r ≡ sumOf FormatK.Q6K (now (w .entry)) (elem (now (q .entry))) (now (x .entry)) ⌝ }
 {
-    let q = k_layouts::quants_q6k(w);
     let mut a: i32 = 0;
     for e in 0..16usize {
-        a += weighed(numbers::signed_byte(w[192 + e]), run(&q, x, e));
+        a += weighed(numbers::signed_byte(w[192 + e]), run(q, x, e));
     }
     a
 }
@@ -105,7 +104,7 @@ pub(crate) fn cut(x: [i8; 256], n: usize) -> [i8; 256]
 
 // The minimums times the activation block's sums, all eight.
 pub(crate) fn minimum_sum(w: &[u8], sums: &[i32]) -> i32
-    requires { ⌜ (length (now w) ≡ 144) × (length (now sums) ≡ 8) × SmallSums (now sums) ⌝ }
+    requires { ⌜ (16 ≤ length (now w)) × (length (now sums) ≡ 8) × SmallSums (now sums) ⌝ }
     ensures { λ r. ⌜ r ≡ minimumSum (now (w .entry)) (now (sums .entry)) ⌝ }
 {
     let mut m: i32 = 0;

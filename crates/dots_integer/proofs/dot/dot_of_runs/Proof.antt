@@ -2,7 +2,6 @@
 use mathlib.Core.Path.{_∙_}
 use mir.Syntax.{w32}
 use Rattle.numbers.proofs.Signed.{read-is}
-use Rattle.dots_integer.specs.Dots.{blockDot}
 use Rattle.dots_integer.proofs.Dots.{scaled-is}
 use borrow.Author.Needs.{needs}
 use Rattle.dots_integer.proofs.dot.dot_of_runs.Statement.{statement}
@@ -18,8 +17,7 @@ half-at-requires : tie.Need-half-at-requires
 half-at-requires c κs = search needs
 
 returns : tie.Need-returns
-unfolding blockDot
-returns c sums =
+returns c =
     let b = c .before in
     scaled-is (b .before .before .before .args .d) (c .half-at .ensures) (b .whole-to-f32 .ensures) (read-is w32 _ (b .before .sum-by-runs .ok) ∙ b .before .sum-by-runs .ensures)
 

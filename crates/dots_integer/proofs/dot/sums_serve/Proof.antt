@@ -2,8 +2,9 @@
 use mathlib.Core.Path.{sym, ap, _∙_}
 use mathlib.Core.Bool.{false≢true}
 use borrow.Author.Needs.{needs}
+use Rattle.layouts.specs.Formats.{hasMinimums}
 use Rattle.layouts.specs.declared.format.FormatK.{FormatK}
-use Rattle.dots_integer.specs.Dots.{hasMinimums, sumsServe}
+use Rattle.dots_integer.specs.Dots.{sumsServe}
 use Rattle.dots_integer.proofs.dot.sums_serve.Statement.{statement}
 use Rattle.dots_integer.proofs.dot.sums_serve.Tie as tie
 

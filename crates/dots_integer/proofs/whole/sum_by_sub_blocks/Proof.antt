@@ -1,18 +1,19 @@
 -- `whole::sum_by_sub_blocks` meets its contract: eight sub-blocks. Assumes nothing.
-use mathlib.Core.Path.{_≡_, ap, _∙_}
+use mathlib.Core.Path.{_≡_, refl, ap, _∙_}
 use Prim.Native.Nat.{_-_, _≤_}
 use native.Mathlib.Omega.{arith}
 use lib.IntN.{ℤ, pos, _*ℤ_}
 use mir.Syntax.{w8, w32}
 use mir.ValLaws.{toZ-pos}
 use Rattle.numbers.proofs.Signed.{read-is}
+use Rattle.layouts.specs.declared.format.FormatK.the-variants.{Q4K}
 use Rattle.dots_activation.proofs.Loops.{Acc, acc-none, acc-all, call-fits, call-more}
-use Rattle.dots_integer.proofs.Runs.{runWeighs, scaleOf, byteOf, sub-block-is, runs-are}
+use Rattle.dots_integer.proofs.Runs.{byteOf, stretchWeighs, stretch-is, stretches-are}
 use Rattle.dots_integer.proofs.whole.sum_by_sub_blocks.Statement.{statement}
 use Rattle.dots_integer.proofs.whole.sum_by_sub_blocks.Tie as tie
 
 abbrev Inv-loop : tie.InvT-loop
-Inv-loop w q x a₀ j₀ a j = (j ≤ 8) × Acc w32 (runWeighs (scaleOf w) (byteOf q) x 32) 133693440 j a
+Inv-loop w q x a₀ j₀ a j = (j ≤ 8) × Acc w32 (stretchWeighs Q4K w (byteOf q) x 32) 133693440 j a
 
 abbrev μ-loop : tie.MeasureT-loop
 μ-loop w q x a₀ j₀ a j = 8 - j
@@ -36,7 +37,7 @@ weighed-requires c κs = rw (read-is w32 _ (c .sub-block .ok)) (c .sub-block .en
 turn : (c : tie.After-weighed Inv-loop μ-loop)
     → let b = c .before .before .before .before in
     let a = b .before .before .args in
-    c .weighed .result ≡ runWeighs (scaleOf (a .w .now)) (byteOf (a .q .now)) (a .x .now) 32 (b .loop .j)
+    c .weighed .result ≡ stretchWeighs Q4K (a .w .now) (byteOf (a .q .now)) (a .x .now) 32 (b .loop .j)
 turn c =
     let b = c .before .before .before .before in
     let a = b .before .before .args in
@@ -44,7 +45,7 @@ turn c =
     let r = c .before .sub-block in
     (rw (read-is w32 _ (r .ok), toZ-pos w8 (s .result) (omega (arith, s .ensures .1))) at (c .weighed .ensures .0))
     ∙ ap (λ (z : ℤ). pos (s .result) *ℤ z) (r .ensures .0)
-    ∙ sub-block-is (a .w .now) (a .q .now) (a .x .now) (b .loop .j) (s .result) (s .ensures .0)
+    ∙ stretch-is Q4K (a .w .now) (byteOf (a .q .now)) (a .x .now) 32 (b .loop .j) (pos (s .result)) refl (ap pos (s .ensures .0))
 
 add-a : tie.Need-add-a Inv-loop μ-loop
 add-a c = call-fits 8 (c .before .before .before .before .loop .inv .1) (c .weighed .ok) (turn c) (c .weighed .ensures .1) (omega arith) tt
@@ -61,7 +62,7 @@ loop-again c = (omega arith, call-more 8 (c .before .before .before .before .loo
 returns : tie.Need-returns Inv-loop μ-loop
 returns c =
     let a = c .before .before .before .args in
-    acc-all 8 (c .before .loop .inv .1) (omega arith) .0 ∙ runs-are (scaleOf (a .w .now)) (byteOf (a .q .now)) (a .x .now) 32 8
+    acc-all 8 (c .before .loop .inv .1) (omega arith) .0 ∙ stretches-are Q4K (a .w .now) (byteOf (a .q .now)) (a .x .now) 32 8
 
 pub sum-by-sub-blocks-spec : {M : Type 1} → statement M
 sum-by-sub-blocks-spec =

@@ -1,11 +1,11 @@
--- `dot::dot_with_minimums` meets its contract. Assumes nothing.
+-- `dot::dot_of_sub_blocks` meets its contract. Assumes nothing.
 use mathlib.Core.Path.{_∙_}
 use mir.Syntax.{w32}
 use Rattle.numbers.proofs.Signed.{read-is}
 use Rattle.dots_integer.proofs.Dots.{scaled-is, less-is}
 use borrow.Author.Needs.{needs}
-use Rattle.dots_integer.proofs.dot.dot_with_minimums.Statement.{statement}
-use Rattle.dots_integer.proofs.dot.dot_with_minimums.Tie as tie
+use Rattle.dots_integer.proofs.dot.dot_of_sub_blocks.Statement.{statement}
+use Rattle.dots_integer.proofs.dot.dot_of_sub_blocks.Tie as tie
 
 sum-by-sub-blocks-requires : tie.Need-sum-by-sub-blocks-requires
 sum-by-sub-blocks-requires c κs = search needs
@@ -33,8 +33,8 @@ returns c =
     less-is (scaled-is dx (c .before .half-at .ensures) (a .whole-to-f32 .ensures) (read-is w32 _ (a .before .sum-by-sub-blocks .ok) ∙ a .before .sum-by-sub-blocks .ensures))
     (scaled-is dx (c .half-at2 .ensures) (m .whole-to-f322 .ensures) (read-is w32 _ (m .before .minimum-sum .ok) ∙ m .before .minimum-sum .ensures))
 
-pub dot-with-minimums-spec : {M : Type 1} → statement M
-dot-with-minimums-spec =
+pub dot-of-sub-blocks-spec : {M : Type 1} → statement M
+dot-of-sub-blocks-spec =
     tie.close
     (tie.spec
     sum-by-sub-blocks-requires
