@@ -3,8 +3,8 @@ use mathlib.Core.Path.{_≡_}
 use Prim.Native.Nat.{_+_}
 use native.Mathlib.Omega.{arith}
 use borrow.Author.Needs.{needs}
-use Rattle.frames.proofs.fields.bits_at.Statement.{statement}
-use Rattle.frames.proofs.fields.bits_at.Tie as tie
+use Rattle.numbers.proofs.fields.bits_at.Statement.{statement}
+use Rattle.numbers.proofs.fields.bits_at.Tie as tie
 
 shared-slice-read-le-u32 : tie.Need-shared-slice-read-le-u32
 shared-slice-read-le-u32 c = search needs
