@@ -1,11 +1,13 @@
 -- The formats' block sizes, and the bytes that name a layer's format. Definitions only.
 use Prim.Native.Nat.{ℕ}
-use mathlib.Core.Bool.{Bool, _||_, cond}
+use mathlib.Core.Bool.{cond}
 use lib.Dec.{eqb}
 use Rattle.layouts.specs.declared.format.Format32.{Format32}
 use Rattle.layouts.specs.declared.format.Format32.the-variants.{Q40, Q50, Q80}
 use Rattle.layouts.specs.declared.format.FormatK.{FormatK}
 use Rattle.layouts.specs.declared.format.FormatK.the-variants.{Q4K, Q6K}
+use Rattle.layouts.specs.declared.format.Named.{Named}
+use Rattle.layouts.specs.declared.format.Named.the-variants.{Known, Unknown}
 use Rattle.layouts.specs.declared.format.Format.{Format}
 use Rattle.layouts.specs.declared.format.Format.the-variants.{Of32, OfK}
 
@@ -30,10 +32,6 @@ abbrev pub blockValues : Format → ℕ
 blockValues (Of32 f) = 32
 blockValues (OfK f) = 256
 
--- a layer's format byte: 4 is Q4_K, 6 is Q6_K, and any other is unknown
-abbrev pub knownFormat : ℕ → Bool
-knownFormat byte = eqb byte 4 || eqb byte 6
-
--- the format that a known byte names
-unfoldable pub formatOf : ℕ → FormatK
-formatOf byte = cond (eqb byte 4) Q4K Q6K
+-- the format that a layer's format byte names: 4 is Q4_K, 6 is Q6_K, and any other names none
+unfoldable pub formatNamed : ℕ → Named
+formatNamed byte = cond (eqb byte 4) (Known Q4K) (cond (eqb byte 6) (Known Q6K) Unknown)

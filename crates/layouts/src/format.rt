@@ -1,8 +1,7 @@
 // The formats, by the values that a block has. A format's name is written without its underscore, which has a meaning
 // of its own in a definition.
 ghost use mathlib.Core.Path.{_≡_};
-ghost use mathlib.Core.Bool.{true};
-ghost use Rattle.layouts.specs.Formats.{bytes32, bytesK, blockBytes, blockValues, knownFormat, formatOf};
+ghost use Rattle.layouts.specs.Formats.{bytes32, bytesK, blockBytes, blockValues, formatNamed};
 
 // The formats with 32 values to a block.
 pub enum Format32 {
@@ -61,24 +60,21 @@ pub fn block_values(format: Format) -> usize
     }
 }
 
-// Whether a layer's format byte is known: 4 is Q4_K, 6 is Q6_K.
-pub fn known_format(byte: u8) -> bool
-    ensures { λ r. ⌜ r ≡ knownFormat byte ⌝ }
-{
-    if byte == 4 {
-        return true;
-    }
-    byte == 6
+// What a layer's format byte names.
+pub enum Named {
+    Known(FormatK),
+    Unknown,
 }
 
-// The format that a known byte names.
-pub fn format_of(byte: u8) -> FormatK
-    requires { ⌜ knownFormat byte ≡ true ⌝ }
-    ensures { λ r. ⌜ r ≡ formatOf byte ⌝ }
+// 4 is Q4_K, 6 is Q6_K, and any other byte names no format.
+pub fn format_named(byte: u8) -> Named
+    ensures { λ r. ⌜ r ≡ formatNamed byte ⌝ }
 {
     if byte == 4 {
-        FormatK::Q4K
-    } else {
-        FormatK::Q6K
+        return Named::Known(FormatK::Q4K);
     }
+    if byte == 6 {
+        return Named::Known(FormatK::Q6K);
+    }
+    Named::Unknown
 }

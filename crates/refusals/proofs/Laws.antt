@@ -1,80 +1,96 @@
--- Laws of the refusals of a call that writes lent memory, and of an answer that is known. Assumes nothing.
+-- Laws of a chain of checks, of what a refusal leaves, and of an answer that is known. Assumes nothing.
+use Prim.{Unit}
+use Prim.Native.Nat.{ℕ}
 use mathlib.Core.Path.{_≡_, refl, sym, ap, _∙_}
 use mathlib.Core.Bool.{Bool, true, false}
-use Prim.Native.Nat.{ℕ, zero, suc, _<_}
 use native.Mathlib.Omega.{arith}
 use lib.Ieee.{Float}
-use Rattle.refusals.specs.Said.{value, done, refused, saidBy, outcomeSays}
+use Rattle.refusals.specs.Said.{Said, value, refused, done, checkSays, saidBy, outcomeSays}
+use Rattle.refusals.specs.declared.Refusal.{Refusal}
+use Rattle.refusals.specs.declared.Check.{Check}
+use Rattle.refusals.specs.declared.Check.the-variants as check
 use Rattle.refusals.specs.declared.Answer.{Answer}
 use Rattle.refusals.specs.declared.Answer.the-variants as answer
 use Rattle.refusals.specs.declared.Outcome.{Outcome}
 use Rattle.refusals.specs.declared.Outcome.the-variants as outcome
 use Rattle.refusals.specs.Refusals.{given, orElse, carriedOut}
 
--- a check that fails the call gives its number
-pub given-yes : (num later : ℕ) (check : Bool) → check ≡ true → given num check later ≡ num
-unfolding given
-given-yes num later true e = refl
-given-yes num later false e = cc
+module _ {A : Type 0} where
+  -- no refusal is a value
+  pub apart : (why : Refusal) (a : A) → refused why ≡ value a → ⊥
+  apart why a e = let z : _≡_ {A = ℕ} 0 1 = cc in absurd (omega arith)
 
--- one that does not leaves it to the later checks
-pub given-no : (num later : ℕ) (check : Bool) → check ≡ false → given num check later ≡ later
-unfolding given
-given-no num later false e = refl
-given-no num later true e = cc
+  -- ---- a chain of checks
 
--- a chain of checks that gives no number: its first check passed, and the later ones gave none
-pub given-none : (num later : ℕ) (check : Bool) → 0 < num → given num check later ≡ 0 → (check ≡ false) × (later ≡ 0)
-unfolding given
-given-none num later true p e = absurd (omega arith)
-given-none num later false p e = (refl, e)
+  -- a check that fails the call refuses
+  pub given-yes : (why : Refusal) (later : Said A) (fails : Bool) → fails ≡ true → given why fails later ≡ refused why
+  unfolding given
+  given-yes why later true e = refl
+  given-yes why later false e = cc
 
--- earlier checks that gave a number, and earlier checks that gave none
-pub else-first : (num later : ℕ) → (num ≡ 0 → ⊥) → orElse num later ≡ num
-unfolding orElse
-else-first zero later h = absurd (h refl)
-else-first (suc num) later h = refl
+  -- one that does not leaves it to what comes later
+  pub given-no : (why : Refusal) (later : Said A) (fails : Bool) → fails ≡ false → given why fails later ≡ later
+  unfolding given
+  given-no why later false e = refl
+  given-no why later true e = cc
 
-pub else-later : (num later : ℕ) → num ≡ 0 → orElse num later ≡ later
-unfolding orElse
-else-later zero later e = refl
-else-later (suc num) later e = absurd (omega arith)
+  -- a chain that says a value: its first check passed, and what comes later says it
+  pub given-passed : (why : Refusal) (later : Said A) (fails : Bool) (a : A) → given why fails later ≡ value a → (fails ≡ false) × (later ≡ value a)
+  unfolding given
+  given-passed why later true a e = absurd (apart why a e)
+  given-passed why later false a e = (refl, e)
 
-pub else-none : (num later : ℕ) → orElse num later ≡ 0 → (num ≡ 0) × (later ≡ 0)
-unfolding orElse
-else-none zero later e = (refl, e)
-else-none (suc num) later e = absurd (omega arith)
+  -- ---- earlier checks and what comes later
 
-pub carried-done : {A : Type 0} (num : ℕ) (new old : A) → num ≡ 0 → carriedOut num new old ≡ (done, new)
-unfolding carriedOut
-carried-done zero new old e = refl
-carried-done (suc num) new old e = absurd (omega arith)
+  pub else-first : (first : Said (Unit {0})) (later : Said A) (why : Refusal) → first ≡ refused why → orElse first later ≡ refused why
+  unfolding orElse
+  else-first (value a) later why e = cc
+  else-first (refused r) later why e = cc
 
-pub carried-refused : {A : Type 0} (num : ℕ) (new old : A) → (num ≡ 0 → ⊥) → carriedOut num new old ≡ (refused num, old)
-unfolding carriedOut
-carried-refused zero new old e = absurd (e refl)
-carried-refused (suc num) new old e = refl
+  pub else-later : (first : Said (Unit {0})) (later : Said A) → first ≡ done → orElse first later ≡ later
+  unfolding orElse
+  else-later (value a) later e = refl
+  else-later (refused why) later e = cc
 
--- a call that says it is done gave no number
-pub carried-none : {A : Type 0} (num : ℕ) (new old : A) → carriedOut num new old .0 ≡ done → num ≡ 0
-unfolding carriedOut
-carried-none zero new old e = refl
-carried-none (suc num) new old e = let z : _≡_ {A = ℕ} 0 1 = cc in absurd (omega arith)
+  pub else-passed : (first : Said (Unit {0})) (later : Said A) (a : A) → orElse first later ≡ value a → (first ≡ done) × (later ≡ value a)
+  unfolding orElse
+  else-passed (value tt) later a e = (refl, e)
+  else-passed (refused why) later a e = absurd (apart why a e)
+
+  -- ---- what lent memory holds
+
+  module _ {M : Type 0} (said : Said A) (new old : M) where
+    pub carried-value : (a : A) → said ≡ value a → carriedOut said new old ≡ (value a, new)
+    unfolding carriedOut
+    carried-value a e = ap (λ (s : Said A). carriedOut s new old) e
+
+    pub carried-refused : (why : Refusal) → said ≡ refused why → carriedOut said new old ≡ (refused why, old)
+    unfolding carriedOut
+    carried-refused why e = ap (λ (s : Said A). carriedOut s new old) e
+
+  -- what a call says is what its checks and its work gave
+  pub carried-said : {M : Type 0} (said : Said A) (new old : M) → carriedOut said new old .0 ≡ said
+  unfolding carriedOut
+  carried-said (value a) new old = refl
+  carried-said (refused why) new old = refl
+
+-- a call whose check refused says so and leaves all as it was; one whose check passed is done
+module _ {M : Type 0} {k : Check} {said : Said (Unit {0})} (new old : M) where
+  pub refused-out : {why : Refusal} → checkSays k ≡ said → k ≡ check.Refused why → (refused why, old) ≡ carriedOut said new old
+  refused-out {why = why} h e = sym (carried-refused said new old why (sym h ∙ ap checkSays e))
+
+  pub done-out : checkSays k ≡ said → k ≡ check.Passed → (done, new) ≡ carriedOut said new old
+  done-out h e = sym (carried-value said new old _ (sym h ∙ ap checkSays e))
+
+-- ---- an answer that is known
 
 -- an outcome that says it is done is no refusal
-pub never-refused : (a : Outcome) (num : ℕ) → outcomeSays a ≡ done → a ≡ outcome.Refused num → ⊥
-never-refused a num s e =
-    let clash : refused num ≡ done = sym (ap outcomeSays e) ∙ s in
-    let z : _≡_ {A = ℕ} 0 1 = cc clash in
-    absurd (omega arith)
+pub never-refused : (a : Outcome) (why : Refusal) → outcomeSays a ≡ done → a ≡ outcome.Refused why → ⊥
+never-refused a why s e = apart why _ (sym (ap outcomeSays e) ∙ s)
 
--- ---- an answer that says a value
-
+-- an answer that says a value is that value, and no refusal
 pub value-of : (a : Answer) (u v : Float) → saidBy a ≡ value v → a ≡ answer.Value u → u ≡ v
 value-of a u v s e = cc (sym (ap saidBy e) ∙ s)
 
-pub no-refusal : (a : Answer) (num : ℕ) (v : Float) → saidBy a ≡ value v → a ≡ answer.Refused num → ⊥
-no-refusal a num v s e =
-    let clash : refused num ≡ value v = sym (ap saidBy e) ∙ s in
-    let z : _≡_ {A = ℕ} 0 1 = cc clash in
-    absurd (omega arith)
+pub no-refusal : (a : Answer) (why : Refusal) (v : Float) → saidBy a ≡ value v → a ≡ answer.Refused why → ⊥
+no-refusal a why v s e = apart why v (sym (ap saidBy e) ∙ s)

@@ -1,4 +1,5 @@
 -- Uniqueness, said of a contract's own reading (the `Post` of a function's `Reads`): at the same arguments it holds of one answer alone. Assumes nothing.
+use Prim.{Unit}
 use mathlib.Core.Path.{_≡_, refl, sym, ap, _∙_}
 use Rattle.refusals.specs.Said.{Said, saidBy, outcomeSays}
 use Rattle.refusals.specs.declared.Answer.{Answer}
@@ -26,17 +27,17 @@ both {A = A} {B = B} h k = let e = same h k in (ap (λ (p : A × B). p .0) e, ap
 -- `saidBy` tells any two answers apart
 pub one-answer : (x y : Answer) → saidBy x ≡ saidBy y → x ≡ y
 one-answer (answer.Value v) (answer.Value w) e = cc
-one-answer (answer.Value v) (answer.Refused num) e = cc
-one-answer (answer.Refused num) (answer.Value v) e = cc
-one-answer (answer.Refused num) (answer.Refused other) e = cc
+one-answer (answer.Value v) (answer.Refused why) e = cc
+one-answer (answer.Refused why) (answer.Value v) e = cc
+one-answer (answer.Refused why) (answer.Refused other) e = cc
 
 -- and so does `outcomeSays`
 pub one-outcome : (x y : Outcome) → outcomeSays x ≡ outcomeSays y → x ≡ y
 one-outcome outcome.Done outcome.Done e = refl
-one-outcome outcome.Done (outcome.Refused num) e = cc
-one-outcome (outcome.Refused num) outcome.Done e = cc
-one-outcome (outcome.Refused num) (outcome.Refused other) e = cc
+one-outcome outcome.Done (outcome.Refused why) e = cc
+one-outcome (outcome.Refused why) outcome.Done e = cc
+one-outcome (outcome.Refused why) (outcome.Refused other) e = cc
 
 -- a call that fills lent memory: what it says and what it leaves, both
-pub one-filled : {M : Type 0} (x y : Outcome) {m n : M} {z : Said × M} → (outcomeSays x, m) ≡ z → (outcomeSays y, n) ≡ z → (x ≡ y) × (m ≡ n)
+pub one-filled : {M : Type 0} (x y : Outcome) {m n : M} {z : Said (Unit {0}) × M} → (outcomeSays x, m) ≡ z → (outcomeSays y, n) ≡ z → (x ≡ y) × (m ≡ n)
 one-filled x y h k = let e = both h k in (one-outcome x y (e .0), e .1)

@@ -1,25 +1,21 @@
--- How a call that writes lent memory refuses: its checks in their order give a number, and the number decides.
--- Definitions only.
-use Prim.Native.Nat.{ℕ, zero, suc}
+-- How a call refuses: its checks in their order, and what a refusal leaves. Definitions only.
+use Prim.{Unit}
 use mathlib.Core.Bool.{Bool, true, false}
-use Rattle.refusals.specs.Said.{Said, done, refused}
+use Rattle.refusals.specs.declared.Refusal.{Refusal}
+use Rattle.refusals.specs.Said.{Said, value, refused}
 
--- 0 is no refusal
-abbrev pub none : ℕ
-none = 0
+-- refused where the check fails the call, and otherwise what comes later
+unfoldable pub given : {A : Type 0} → Refusal → Bool → Said A → Said A
+given why true later = refused why
+given why false later = later
 
--- the number `num` where the check fails the call, and otherwise what the later checks give
-unfoldable pub given : ℕ → Bool → ℕ → ℕ
-given num true later = num
-given num false later = later
-
--- the number that earlier checks gave, and where they gave none what the later checks give
-unfoldable pub orElse : ℕ → ℕ → ℕ
-orElse zero later = later
-orElse (suc num) later = suc num
+-- what earlier checks refuse, and where they refuse nothing what comes later
+unfoldable pub orElse : {A : Type 0} → Said (Unit {0}) → Said A → Said A
+orElse (value passed) later = later
+orElse (refused why) later = refused why
 
 -- A refusal returns its number and leaves all lent memory as it found it: what the call says, and what its memory holds
 -- then, `new` where it did its work and `old` where it refused.
-unfoldable pub carriedOut : {A : Type 0} → ℕ → A → A → Said × A
-carriedOut zero new old = (done, new)
-carriedOut (suc num) new old = (refused (suc num), old)
+unfoldable pub carriedOut : {A M : Type 0} → Said A → M → M → Said A × M
+carriedOut (value a) new old = (value a, new)
+carriedOut (refused why) new old = (refused why, old)

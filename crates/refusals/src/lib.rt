@@ -1,33 +1,38 @@
-// The numbers that say no, the sizes a call takes, and the answers that carry a value or such a number.
+// The refusals, the sizes a call takes, and the answers that carry a value or a refusal.
 ghost use mathlib.Core.Path.{_≡_};
 ghost use Rattle.refusals.specs.Said.{saidBy, outcomeSays, passedOn};
 
+// Why a call says no: document 01's number.
+pub struct Refusal {
+    pub number: u32,
+}
+
 // Packed bytes are not whole blocks.
-pub const NOT_WHOLE_BLOCKS: u32 = 1;
+pub const NOT_WHOLE_BLOCKS: Refusal = Refusal { number: 1 };
 // A float count or in_feat is not a multiple of the block's values.
-pub const NOT_A_MULTIPLE: u32 = 2;
+pub const NOT_A_MULTIPLE: Refusal = Refusal { number: 2 };
 // Fewer weights than needed; in the `_cpu` layers, any other weight length.
-pub const WEIGHTS_SHORT: u32 = 3;
+pub const WEIGHTS_SHORT: Refusal = Refusal { number: 3 };
 // Fewer readings than needed; in the `_cpu` layers, any other length; too many for one activation block.
-pub const READINGS_SHORT: u32 = 4;
+pub const READINGS_SHORT: Refusal = Refusal { number: 4 };
 // Output, scratch, slots or marks too short; in the `_cpu` layers, an output of any other length.
-pub const ROOM_SHORT: u32 = 5;
+pub const ROOM_SHORT: Refusal = Refusal { number: 5 };
 // Over a size below; a layer record's in_feat or out_feat out of range.
-pub const TOO_LARGE: u32 = 6;
+pub const TOO_LARGE: Refusal = Refusal { number: 6 };
 // An activation block whose sums are not the sums of its 32s.
-pub const WRONG_SUMS: u32 = 7;
+pub const WRONG_SUMS: Refusal = Refusal { number: 7 };
 // A row or chunk outside the layer.
-pub const OUTSIDE: u32 = 8;
+pub const OUTSIDE: Refusal = Refusal { number: 8 };
 // That piece is already done.
-pub const ALREADY_DONE: u32 = 9;
+pub const ALREADY_DONE: Refusal = Refusal { number: 9 };
 // A row is closed while a piece of it is open.
-pub const PIECE_OPEN: u32 = 10;
+pub const PIECE_OPEN: Refusal = Refusal { number: 10 };
 // A record is malformed.
-pub const MALFORMED: u32 = 11;
+pub const MALFORMED: Refusal = Refusal { number: 11 };
 // Unknown record kind or weight format.
-pub const UNKNOWN: u32 = 12;
+pub const UNKNOWN: Refusal = Refusal { number: 12 };
 // A window still has warm-up readings.
-pub const WARM_UP: u32 = 13;
+pub const WARM_UP: Refusal = Refusal { number: 13 };
 
 // n and in_feat at most.
 pub const MOST_IN: usize = 131_072;
@@ -40,16 +45,22 @@ pub const MOST_FLOATS: usize = 131_072;
 // Bytes at most, where a block decoder is given them.
 pub const MOST_BYTES: usize = 16_777_216;
 
-// What a dot or a sum answers: its value, or a number that says no.
-pub enum Answer {
-    Value(f32),
-    Refused(u32),
+// What a check answers: that nothing is refused, or why the call says no.
+pub enum Check {
+    Passed,
+    Refused(Refusal),
 }
 
-// What a call that fills lent memory answers: that it is done, or a number that says no.
+// What a dot or a sum answers: its value, or why it says no.
+pub enum Answer {
+    Value(f32),
+    Refused(Refusal),
+}
+
+// What a call that fills lent memory answers: that it is done, or why it says no.
 pub enum Outcome {
     Done,
-    Refused(u32),
+    Refused(Refusal),
 }
 
 // What a layer says of a row dot's answer: its refusal is passed on.
@@ -58,6 +69,6 @@ pub fn passed_on(answer: Answer) -> Outcome
 {
     match answer {
         Answer::Value(_) => Outcome::Done,
-        Answer::Refused(number) => Outcome::Refused(number),
+        Answer::Refused(refusal) => Outcome::Refused(refusal),
     }
 }

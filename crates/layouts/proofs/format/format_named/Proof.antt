@@ -1,0 +1,20 @@
+-- `format::format_named` meets its contract. Assumes nothing.
+use borrow.Author.Tests.{eq-eqb, ne-eqb}
+use Rattle.layouts.specs.Formats.{formatNamed}
+use Rattle.layouts.proofs.format.format_named.Statement.{statement}
+use Rattle.layouts.proofs.format.format_named.Tie as tie
+
+returns : tie.Need-returns
+unfolding formatNamed
+returns c = simp (eq-eqb _ _ (c .if1 .taken))
+
+returns-2 : tie.Need-returns-2
+unfolding formatNamed
+returns-2 c = simp (ne-eqb _ _ (c .before .if1 .left), eq-eqb _ _ (c .if2 .taken))
+
+returns-3 : tie.Need-returns-3
+unfolding formatNamed
+returns-3 c = simp (ne-eqb _ _ (c .before .if1 .left), ne-eqb _ _ (c .if2 .left))
+
+pub format-named-spec : {M : Type 1} → statement M
+format-named-spec = tie.close (tie.spec returns returns-2 returns-3)
