@@ -5,7 +5,8 @@ use Prim.Native.Nat.{ℕ, _%_}
 use lib.Dec.{ltb, eqb}
 use lib.ListN.{length}
 use lib.Ieee.{Float}
-use Rattle.refusals.specs.Said.{Said, value, refused}
+use Rattle.refusals.specs.Said.{Said, value, no}
+use Rattle.refusals.specs.Refusals.{given}
 use Rattle.refusals.specs.Sizes.{mostIn}
 use Rattle.numbers.specs.Steps.{nought}
 use Rattle.layouts.specs.Formats.{bytesK}
@@ -17,11 +18,11 @@ use Rattle.dots_fused_chunk.specs.Terms.{terms}
 
 -- `canonical_dot_q4k_fused`, `q6k_fused_f32_dot`: over a size; packed bytes that are not whole blocks, also at n = 0; n
 -- = 0 answers +0.0; fewer weights than needed; fewer readings; and otherwise the row's sum
-unfoldable pub fusedSays : FormatK → List Float → List ℕ → ℕ → Said
+unfoldable pub fusedSays : FormatK → List Float → List ℕ → ℕ → Said Float
 fusedSays f x w n =
-    cond (ltb mostIn n) (refused 6)
-    (cond (not (eqb (length w % bytesK f) 0)) (refused 1)
+    given (no 6) (ltb mostIn n)
+    (given (no 1) (not (eqb (length w % bytesK f) 0))
     (cond (eqb n 0) (value nought)
-    (cond (ltb (valuesOf (OfK f) (length w)) n) (refused 3)
-    (cond (ltb (length x) n) (refused 4)
+    (given (no 3) (ltb (valuesOf (OfK f) (length w)) n)
+    (given (no 4) (ltb (length x) n)
     (value (rowSum (terms f x w) n))))))

@@ -1,11 +1,12 @@
 // The `_cpu` layers: a row of weights is decoded into scratch once, and serves every row of readings.
 use decoded_rows::decode_row;
-use layers_cpu_checks::cpu_no;
+use layers_cpu_checks::cpu_refusal;
 use layers_shape::Shape;
 use layouts::Format;
 use layouts::Format32;
 use layouts::FormatK;
 use refusals::Answer;
+use refusals::Check;
 use refusals::Outcome;
 use refusals::passed_on;
 ghost use mathlib.Core.Path.{_≡_};
@@ -16,7 +17,7 @@ ghost use Rattle.refusals.specs.Sizes.{mostIn, mostOut, mostBatch};
 ghost use Rattle.sums_lanes.specs.Lanes.{products};
 ghost use Rattle.sums.specs.Rows.{rowSum};
 ghost use Rattle.layers_shape.specs.Shapes.{shape, readingRow};
-ghost use Rattle.layers_cpu_checks.specs.Refusals.{cpuNo};
+ghost use Rattle.layers_cpu_checks.specs.Refusals.{cpuRefusal};
 ghost use Rattle.layers_cpu.specs.Says.{cpuSays};
 ghost use Rattle.layers_cpu.specs.Columns.{column};
 
@@ -53,7 +54,7 @@ fn all_columns(
     scratch: &mut [f32],
     s: Shape,
 ) -> Outcome
-    requires { ⌜ cpuNo format s (length (now x)) (length (now w)) (length (now y)) (length (now scratch)) ≡ 0 ⌝ }
+    requires { ⌜ cpuRefusal format s (length (now x)) (length (now w)) (length (now y)) (length (now scratch)) ≡ done ⌝ }
     ensures { λ r. ⌜ (outcomeSays r, (now (y .exit), now (scratch .exit)))
         ≡ cpuSays format s (now (x .entry)) (now (w .entry)) (now (y .entry)) (now (scratch .entry)) ⌝ }
 {
@@ -82,9 +83,9 @@ fn cpu_layer(
     ensures { λ r. ⌜ (outcomeSays r, (now (y .exit), now (scratch .exit)))
         ≡ cpuSays format s (now (x .entry)) (now (w .entry)) (now (y .entry)) (now (scratch .entry)) ⌝ }
 {
-    let no = cpu_no(format, s, x.len(), w.len(), y.len(), scratch.len());
-    if no != 0 {
-        return Outcome::Refused(no);
+    let checked = cpu_refusal(format, s, x.len(), w.len(), y.len(), scratch.len());
+    if let Check::Refused(refusal) = checked {
+        return Outcome::Refused(refusal);
     }
     all_columns(format, x, w, y, scratch, s)
 }

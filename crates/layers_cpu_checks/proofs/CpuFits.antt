@@ -4,8 +4,8 @@ use Prim.Native.Nat.{ℕ, _*_, _/_, _%_, _≤_, _<_}
 use native.Mathlib.Nat.{mul-assoc, mul-div-cancel}
 use native.Mathlib.Omega.{arith}
 use borrow.Author.Tests.{ltb-false, eqb-true, not-false}
-use lib.Dec.{lit<}
-use Rattle.refusals.proofs.Laws.{given-none}
+use Rattle.refusals.specs.Said.{done}
+use Rattle.refusals.proofs.Laws.{given-passed}
 use Rattle.layouts.specs.Formats.{bytes32}
 use Rattle.layouts.specs.Weights.{valuesOf}
 use Rattle.layouts.specs.declared.format.Format32.{Format32}
@@ -14,7 +14,7 @@ use Rattle.layouts.specs.declared.format.Format.the-variants.{Of32, OfK}
 use Rattle.layouts.proofs.Sizes.{least-32}
 use Rattle.layers_shape.specs.declared.Shape.{Shape}
 use Rattle.layers_shape.proofs.Fits.{InSizes, in-sizes}
-use Rattle.layers_cpu_checks.specs.Refusals.{cpuNo}
+use Rattle.layers_cpu_checks.specs.Refusals.{cpuRefusal}
 
 -- all that a `_cpu` layer asks for is there
 pub record CpuFits (f : Format) (s : Shape) (readings weights places scratch : ℕ) : Type 0 where
@@ -32,15 +32,15 @@ values-32 f n rows weights whole e =
     let count : weights / bytes32 f ≡ rows * (n / 32) = ap (λ (k : ℕ). k / bytes32 f) (e ∙ sym (mul-assoc rows (n / 32) (bytes32 f))) ∙ mul-div-cancel (rows * (n / 32)) positive in
     ap (λ (k : ℕ). k * 32) count ∙ mul-assoc rows (n / 32) 32 ∙ ap (λ (k : ℕ). rows * k) all
 
-pub cpu-fits : (f : Format) (s : Shape) (readings weights places scratch : ℕ) → cpuNo f s readings weights places scratch ≡ 0 → CpuFits f s readings weights places scratch
-unfolding cpuNo
+pub cpu-fits : (f : Format) (s : Shape) (readings weights places scratch : ℕ) → cpuRefusal f s readings weights places scratch ≡ done → CpuFits f s readings weights places scratch
+unfolding cpuRefusal
 cpu-fits (OfK f) s readings weights places scratch e =
-    let g6 = given-none 6 _ _ (lit< tt) e in
-    let g4 = given-none 4 _ _ (lit< tt) (g6 .1) in
-    let g5 = given-none 5 _ _ (lit< tt) (g4 .1) in
-    let g1 = given-none 1 _ _ (lit< tt) (g5 .1) in
-    let g3 = given-none 3 _ _ (lit< tt) (g1 .1) in
-    let last = given-none 5 _ _ (lit< tt) (g3 .1) in
+    let g6 = given-passed _ _ _ _ e in
+    let g4 = given-passed _ _ _ _ (g6 .1) in
+    let g5 = given-passed _ _ _ _ (g4 .1) in
+    let g1 = given-passed _ _ _ _ (g5 .1) in
+    let g3 = given-passed _ _ _ _ (g1 .1) in
+    let last = given-passed _ _ _ _ (g3 .1) in
     record {
       within = in-sizes s (g6 .0);
       read = eqb-true _ _ (not-false _ (g4 .0));
@@ -49,12 +49,12 @@ cpu-fits (OfK f) s readings weights places scratch e =
       spare = ltb-false _ _ (last .0);
     }
 cpu-fits (Of32 f) s readings weights places scratch e =
-    let g6 = given-none 6 _ _ (lit< tt) e in
-    let g2 = given-none 2 _ _ (lit< tt) (g6 .1) in
-    let g3 = given-none 3 _ _ (lit< tt) (g2 .1) in
-    let g4 = given-none 4 _ _ (lit< tt) (g3 .1) in
-    let g5 = given-none 5 _ _ (lit< tt) (g4 .1) in
-    let last = given-none 5 _ _ (lit< tt) (g5 .1) in
+    let g6 = given-passed _ _ _ _ e in
+    let g2 = given-passed _ _ _ _ (g6 .1) in
+    let g3 = given-passed _ _ _ _ (g2 .1) in
+    let g4 = given-passed _ _ _ _ (g3 .1) in
+    let g5 = given-passed _ _ _ _ (g4 .1) in
+    let last = given-passed _ _ _ _ (g5 .1) in
     record {
       within = in-sizes s (g6 .0);
       read = eqb-true _ _ (not-false _ (g4 .0));

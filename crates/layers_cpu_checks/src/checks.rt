@@ -3,91 +3,93 @@ use layers_shape::Shape;
 use layouts::Format;
 use layouts::Format32;
 use layouts::FormatK;
+use refusals::Check;
 ghost use mathlib.Core.Path.{_≡_};
 ghost use Prim.Native.Nat.{_^_, _<_};
-ghost use Rattle.layers_cpu_checks.specs.Refusals.{cpuNo};
+ghost use Rattle.refusals.specs.Said.{checkSays};
+ghost use Rattle.layers_cpu_checks.specs.Refusals.{cpuRefusal};
 
-// Over a K format: 6, 4, 5, 1, 3, and 5 for scratch, in this order; 0 where it does not. A slice has fewer than 2^63
+// Over a K format: 6, 4, 5, 1, 3, and 5 for scratch, in this order. A slice has fewer than 2^63
 // places, so the product of its blocks fits.
-fn cpu_k_no(
+fn cpu_k_refusal(
     format: FormatK,
     s: Shape,
     readings: usize,
     weights: usize,
     places: usize,
     scratch: usize,
-) -> u32
+) -> Check
     requires { ⌜ weights < 2 ^ 63 ⌝ }
-    ensures { λ r. ⌜ r ≡ cpuNo (Format.OfK format) s readings weights places scratch ⌝ }
+    ensures { λ r. ⌜ checkSays r ≡ cpuRefusal (Format.OfK format) s readings weights places scratch ⌝ }
 {
     if layers_shape::is_oversize(s) {
-        return refusals::TOO_LARGE;
+        return Check::Refused(refusals::TOO_LARGE);
     }
     if readings != s.batch * s.in_feat {
-        return refusals::READINGS_SHORT;
+        return Check::Refused(refusals::READINGS_SHORT);
     }
     if places != s.batch * s.out_feat {
-        return refusals::ROOM_SHORT;
+        return Check::Refused(refusals::ROOM_SHORT);
     }
     let size = layouts::block_bytes(Format::OfK(format));
     if weights % size != 0 {
-        return refusals::NOT_WHOLE_BLOCKS;
+        return Check::Refused(refusals::NOT_WHOLE_BLOCKS);
     }
     if weights / size * 256 != s.out_feat * s.in_feat {
-        return refusals::WEIGHTS_SHORT;
+        return Check::Refused(refusals::WEIGHTS_SHORT);
     }
     if scratch < s.in_feat {
-        return refusals::ROOM_SHORT;
+        return Check::Refused(refusals::ROOM_SHORT);
     }
-    0
+    Check::Passed
 }
 
-// Over a 32-value format: 6, 2, 3, 4, 5, and 5 for scratch, in this order; 0 where it does not.
-fn cpu_32_no(
+// Over a 32-value format: 6, 2, 3, 4, 5, and 5 for scratch, in this order.
+fn cpu_32_refusal(
     format: Format32,
     s: Shape,
     readings: usize,
     weights: usize,
     places: usize,
     scratch: usize,
-) -> u32
-    ensures { λ r. ⌜ r ≡ cpuNo (Format.Of32 format) s readings weights places scratch ⌝ }
+) -> Check
+    ensures { λ r. ⌜ checkSays r ≡ cpuRefusal (Format.Of32 format) s readings weights places scratch ⌝ }
 {
     if layers_shape::is_oversize(s) {
-        return refusals::TOO_LARGE;
+        return Check::Refused(refusals::TOO_LARGE);
     }
     if s.in_feat % 32 != 0 {
-        return refusals::NOT_A_MULTIPLE;
+        return Check::Refused(refusals::NOT_A_MULTIPLE);
     }
     let size = layouts::block_bytes(Format::Of32(format));
     if weights != s.out_feat * (s.in_feat / 32 * size) {
-        return refusals::WEIGHTS_SHORT;
+        return Check::Refused(refusals::WEIGHTS_SHORT);
     }
     if readings != s.batch * s.in_feat {
-        return refusals::READINGS_SHORT;
+        return Check::Refused(refusals::READINGS_SHORT);
     }
     if places != s.batch * s.out_feat {
-        return refusals::ROOM_SHORT;
+        return Check::Refused(refusals::ROOM_SHORT);
     }
     if scratch < s.in_feat {
-        return refusals::ROOM_SHORT;
+        return Check::Refused(refusals::ROOM_SHORT);
     }
-    0
+    Check::Passed
 }
 
-pub fn cpu_no(
+pub fn cpu_refusal(
     format: Format,
     s: Shape,
     readings: usize,
     weights: usize,
     places: usize,
     scratch: usize,
-) -> u32
+) -> Check
     requires { ⌜ weights < 2 ^ 63 ⌝ }
-    ensures { λ r. ⌜ r ≡ cpuNo format s readings weights places scratch ⌝ }
+    ensures { λ r. ⌜ checkSays r ≡ cpuRefusal format s readings weights places scratch ⌝ }
 {
     match format {
-        Format::Of32(f) => cpu_32_no(f, s, readings, weights, places, scratch),
-        Format::OfK(f) => cpu_k_no(f, s, readings, weights, places, scratch),
+        Format::Of32(f) => cpu_32_refusal(f, s, readings, weights, places, scratch),
+        Format::OfK(f) => cpu_k_refusal(f, s, readings, weights, places, scratch),
     }
 }

@@ -8,6 +8,7 @@ use borrow.Author.Tests.{le-ltb, eq-eqb, ne-eqb}
 use lib.ListN.{length}
 use lib.Ieee.{Float}
 use Rattle.refusals.specs.Said.{value}
+use Rattle.refusals.specs.Refusals.{given}
 use Rattle.refusals.specs.Sizes.{mostIn}
 use Rattle.memory.specs.Lists.{table}
 use Rattle.layouts.specs.declared.format.FormatK.{FormatK}
@@ -24,7 +25,7 @@ not-nought m e = omega arith
 -- the fused dot of a row of whole blocks and as many readings
 pub fused-answers : (f : FormatK) (x : List Float) (w : List ℕ) (n : ℕ) → n ≤ mostIn → n ≤ length x → n % 256 ≡ 0 → length w ≡ rowBytes f n
     → fusedSays f x w n ≡ value (rowSum (terms f x w) n)
-unfolding fusedSays rowSum tree met table
+unfolding fusedSays given rowSum tree met table
 fused-answers f x w zero most enough whole e = simp (eq-eqb _ _ (row-values f 0 (length w) whole e .0))
 fused-answers f x w (suc m) most enough whole e =
     let v = row-values f (suc m) (length w) whole e in

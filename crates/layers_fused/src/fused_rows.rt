@@ -1,7 +1,9 @@
 // The fused layers: no decoded row is held.
 use layers_shape::Shape;
+use layers_shape::layer_refusal;
 use layouts::FormatK;
 use refusals::Answer;
+use refusals::Check;
 use refusals::Outcome;
 use refusals::passed_on;
 ghost use mathlib.Core.Path.{_≡_};
@@ -10,7 +12,7 @@ ghost use lib.ListN.{length};
 ghost use Rattle.refusals.specs.Said.{done, outcomeSays};
 ghost use Rattle.refusals.specs.Sizes.{mostIn, mostOut};
 ghost use Rattle.memory.specs.Lists.{table};
-ghost use Rattle.layers_shape.specs.Shapes.{shape, rowBytes, layerNo};
+ghost use Rattle.layers_shape.specs.Shapes.{shape, rowBytes, layerRefusal};
 ghost use Rattle.layers_fused.specs.Says.{fusedDotAt, fusedLayerSays};
 
 // The outputs of one row of readings, a place for each row of weights.
@@ -38,7 +40,7 @@ fn one_row(format: FormatK, x: &[f32], w: &[u8], y: &mut [f32]) -> Outcome
 
 // The outputs of every row of readings.
 fn all_rows(format: FormatK, x: &[f32], w: &[u8], y: &mut [f32], s: Shape) -> Outcome
-    requires { ⌜ layerNo format s (length (now x)) (length (now w)) (length (now y)) ≡ 0 ⌝ }
+    requires { ⌜ layerRefusal format s (length (now x)) (length (now w)) (length (now y)) ≡ done ⌝ }
     ensures { λ r. ⌜ (outcomeSays r, now (y .exit))
         ≡ fusedLayerSays format s (now (x .entry)) (now (w .entry)) (now (y .entry)) ⌝ }
 {
@@ -61,9 +63,8 @@ fn fused_layer(format: FormatK, x: &[f32], w: &[u8], y: &mut [f32], s: Shape) ->
     ensures { λ r. ⌜ (outcomeSays r, now (y .exit))
         ≡ fusedLayerSays format s (now (x .entry)) (now (w .entry)) (now (y .entry)) ⌝ }
 {
-    let no = layers_shape::layer_no(format, s, x.len(), w.len(), y.len());
-    if no != 0 {
-        return Outcome::Refused(no);
+    if let Check::Refused(refusal) = layer_refusal(format, s, x.len(), w.len(), y.len()) {
+        return Outcome::Refused(refusal);
     }
     all_rows(format, x, w, y, s)
 }

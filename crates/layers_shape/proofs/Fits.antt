@@ -5,15 +5,15 @@ use Prim.Native.Nat.{ℕ, _*_, _%_, _≤_, _<_}
 use native.Mathlib.Nat.{le-trans, mul-le-mul-right, mul-le-mul-left}
 use native.Mathlib.Omega.{arith}
 use borrow.Author.Tests.{ltb-false, eqb-true, not-false}
-use lib.Dec.{lit<}
+use Rattle.refusals.specs.Said.{done}
 use Rattle.refusals.specs.Sizes.{mostIn, mostOut, mostBatch}
-use Rattle.refusals.proofs.Laws.{given-none}
+use Rattle.refusals.proofs.Laws.{given-passed}
 use Rattle.layouts.specs.Formats.{bytesK}
 use Rattle.layouts.specs.declared.format.FormatK.{FormatK}
 use Rattle.layouts.specs.declared.format.Format.the-variants.{OfK}
 use Rattle.layouts.proofs.Sizes.{sizes}
 use Rattle.layers_shape.specs.declared.Shape.{Shape}
-use Rattle.layers_shape.specs.Shapes.{oversize, rowBytes, layerNo}
+use Rattle.layers_shape.specs.Shapes.{oversize, rowBytes, weightBytes, layerRefusal}
 
 neither : (a b : Bool) → (a || b) ≡ false → (a ≡ false) × (b ≡ false)
 neither true b e = absurd (true≢false e)
@@ -46,18 +46,18 @@ product-small a b A B h k = le-trans (mul-le-mul-right b h) (mul-le-mul-left A k
 pub record Fits (f : FormatK) (s : Shape) (readings weights places : ℕ) : Type 0 where
   pub within : InSizes s
   pub whole : s .«in_feat» % 256 ≡ 0
-  pub weighed : s .«out_feat» * rowBytes f (s .«in_feat») ≤ weights
+  pub weighed : weightBytes f (s .«in_feat») (s .«out_feat») ≤ weights
   pub read : s .batch * s .«in_feat» ≤ readings
   pub room : s .batch * s .«out_feat» ≤ places
 
-pub fits : (f : FormatK) (s : Shape) (readings weights places : ℕ) → layerNo f s readings weights places ≡ 0 → Fits f s readings weights places
-unfolding layerNo
+pub fits : (f : FormatK) (s : Shape) (readings weights places : ℕ) → layerRefusal f s readings weights places ≡ done → Fits f s readings weights places
+unfolding layerRefusal
 fits f s readings weights places e =
-    let g6 = given-none 6 _ _ (lit< tt) e in
-    let g2 = given-none 2 _ _ (lit< tt) (g6 .1) in
-    let g3 = given-none 3 _ _ (lit< tt) (g2 .1) in
-    let g4 = given-none 4 _ _ (lit< tt) (g3 .1) in
-    let g5 = given-none 5 _ _ (lit< tt) (g4 .1) in
+    let g6 = given-passed _ _ _ _ e in
+    let g2 = given-passed _ _ _ _ (g6 .1) in
+    let g3 = given-passed _ _ _ _ (g2 .1) in
+    let g4 = given-passed _ _ _ _ (g3 .1) in
+    let g5 = given-passed _ _ _ _ (g4 .1) in
     record {
       within = in-sizes s (g6 .0);
       whole = eqb-true _ _ (not-false _ (g2 .0));

@@ -1,11 +1,13 @@
 -- A layer's shape: what it needs, and where its rows lie. Definitions only.
+use Prim.{Unit}
 use Prim.Native.Nat.{ℕ, _*_, _/_, _%_}
 use mathlib.Core.Bool.{Bool, not, _||_}
 use mathlib.Core.List.{List}
 use lib.Dec.{ltb, eqb}
 use lib.Ieee.{Float}
 use Rattle.refusals.specs.Sizes.{mostIn, mostOut, mostBatch}
-use Rattle.refusals.specs.Refusals.{none, given}
+use Rattle.refusals.specs.Said.{Said, done, no}
+use Rattle.refusals.specs.Refusals.{given}
 use Rattle.memory.specs.Lists.{filled, part}
 use Rattle.layouts.specs.Formats.{bytesK}
 use Rattle.layouts.specs.declared.format.FormatK.{FormatK}
@@ -23,16 +25,20 @@ oversize s = ltb mostBatch (s .batch) || (ltb mostIn (s .«in_feat») || ltb mos
 abbrev pub rowBytes : FormatK → ℕ → ℕ
 rowBytes f n = n / 256 * bytesK f
 
+-- the bytes of a layer's weights, outFeat rows of inFeat
+abbrev pub weightBytes : FormatK → (inFeat outFeat : ℕ) → ℕ
+weightBytes f inFeat outFeat = outFeat * rowBytes f inFeat
+
 -- Why a fused, integer or `_rs` layer says no, given so many readings, weight bytes and output places. Needs are
 -- products of the stated sizes, also when batch or out_feat is 0.
-unfoldable pub layerNo : FormatK → Shape → ℕ → ℕ → ℕ → ℕ
-layerNo f s readings weights places =
-    given 6 (oversize s)
-    (given 2 (not (eqb (s .«in_feat» % 256) 0))
-    (given 3 (ltb weights (s .«out_feat» * rowBytes f (s .«in_feat»)))
-    (given 4 (ltb readings (s .batch * s .«in_feat»))
-    (given 5 (ltb places (s .batch * s .«out_feat»))
-    none))))
+unfoldable pub layerRefusal : FormatK → Shape → (readings weights places : ℕ) → Said (Unit {0})
+layerRefusal f s readings weights places =
+    given (no 6) (oversize s)
+    (given (no 2) (not (eqb (s .«in_feat» % 256) 0))
+    (given (no 3) (ltb weights (weightBytes f (s .«in_feat») (s .«out_feat»)))
+    (given (no 4) (ltb readings (s .batch * s .«in_feat»))
+    (given (no 5) (ltb places (s .batch * s .«out_feat»))
+    done))))
 
 -- row b of the readings
 abbrev pub readingRow : List Float → Shape → ℕ → List Float

@@ -1,10 +1,12 @@
 // A layer's shape, and why a layer whose rows are whole K blocks says no: the fused, integer and `_rs` layers.
 use layouts::Format;
 use layouts::FormatK;
+use refusals::Check;
 ghost use mathlib.Core.Path.{_≡_};
 ghost use Prim.Native.Nat.{_≤_};
-ghost use Rattle.refusals.specs.Sizes.{mostIn};
-ghost use Rattle.layers_shape.specs.Shapes.{oversize, rowBytes, layerNo};
+ghost use Rattle.refusals.specs.Said.{checkSays};
+ghost use Rattle.refusals.specs.Sizes.{mostIn, mostOut};
+ghost use Rattle.layers_shape.specs.Shapes.{oversize, rowBytes, weightBytes, layerRefusal};
 
 // `batch` rows of in_feat readings, out_feat rows of in_feat weights, and an output for each pair of them.
 pub struct Shape {
@@ -34,25 +36,39 @@ pub fn row_bytes(format: FormatK, n: usize) -> usize
     n / 256 * layouts::block_bytes(Format::OfK(format))
 }
 
+// The bytes of a layer's weights.
+pub fn weight_bytes(format: FormatK, in_feat: usize, out_feat: usize) -> usize
+    requires { ⌜ («in_feat» ≤ mostIn) × («out_feat» ≤ mostOut) ⌝ }
+    ensures { λ r. ⌜ r ≡ weightBytes format «in_feat» «out_feat» ⌝ }
+{
+    out_feat * row_bytes(format, in_feat)
+}
+
 // Why a layer of this shape says no, given so many readings, weight bytes and output places: 6, 2, 3, 4, 5, in this
-// order; 0 where it does not.
-pub fn layer_no(format: FormatK, s: Shape, readings: usize, weights: usize, places: usize) -> u32
-    ensures { λ r. ⌜ r ≡ layerNo format s readings weights places ⌝ }
+// order.
+pub fn layer_refusal(
+    format: FormatK,
+    s: Shape,
+    readings: usize,
+    weights: usize,
+    places: usize,
+) -> Check
+    ensures { λ r. ⌜ checkSays r ≡ layerRefusal format s readings weights places ⌝ }
 {
     if is_oversize(s) {
-        return refusals::TOO_LARGE;
+        return Check::Refused(refusals::TOO_LARGE);
     }
     if s.in_feat % 256 != 0 {
-        return refusals::NOT_A_MULTIPLE;
+        return Check::Refused(refusals::NOT_A_MULTIPLE);
     }
-    if weights < s.out_feat * row_bytes(format, s.in_feat) {
-        return refusals::WEIGHTS_SHORT;
+    if weights < weight_bytes(format, s.in_feat, s.out_feat) {
+        return Check::Refused(refusals::WEIGHTS_SHORT);
     }
     if readings < s.batch * s.in_feat {
-        return refusals::READINGS_SHORT;
+        return Check::Refused(refusals::READINGS_SHORT);
     }
     if places < s.batch * s.out_feat {
-        return refusals::ROOM_SHORT;
+        return Check::Refused(refusals::ROOM_SHORT);
     }
-    0
+    Check::Passed
 }

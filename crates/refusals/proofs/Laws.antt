@@ -74,13 +74,20 @@ module _ {A : Type 0} where
   carried-said (value a) new old = refl
   carried-said (refused why) new old = refl
 
+-- what the checks say, by the check's answer
+pub check-passed : {k : Check} {said : Said (Unit {0})} → checkSays k ≡ said → k ≡ check.Passed → said ≡ done
+check-passed h e = sym h ∙ ap checkSays e
+
+pub check-refused : {k : Check} {said : Said (Unit {0})} {why : Refusal} → checkSays k ≡ said → k ≡ check.Refused why → said ≡ refused why
+check-refused h e = sym h ∙ ap checkSays e
+
 -- a call whose check refused says so and leaves all as it was; one whose check passed is done
 module _ {M : Type 0} {k : Check} {said : Said (Unit {0})} (new old : M) where
   pub refused-out : {why : Refusal} → checkSays k ≡ said → k ≡ check.Refused why → (refused why, old) ≡ carriedOut said new old
-  refused-out {why = why} h e = sym (carried-refused said new old why (sym h ∙ ap checkSays e))
+  refused-out {why = why} h e = sym (carried-refused said new old why (check-refused h e))
 
   pub done-out : checkSays k ≡ said → k ≡ check.Passed → (done, new) ≡ carriedOut said new old
-  done-out h e = sym (carried-value said new old _ (sym h ∙ ap checkSays e))
+  done-out h e = sym (carried-value said new old _ (check-passed h e))
 
 -- ---- an answer that is known
 

@@ -16,6 +16,7 @@ use lib.Ieee.Digits.{back}
 use lib.Ieee.Fits.{reach, and-l, and-r, down-pos, round-fits}
 use lib.Ieee.Exact.{HasValue, round-exact}
 use Rattle.halves.proofs.SameValue.{same-value}
+use Rattle.refusals.specs.Refusals.{given}
 use Rattle.sums_lanes.specs.Lanes.{products, values}
 use Rattle.sums.specs.Rows.{rowSum}
 use Rattle.sums.specs.Says.{dotSays, sumSays}
@@ -93,5 +94,5 @@ module _ (x : List Float) (n : ℕ) (held-by : (i : ℕ) → i < n → T (fits b
 
   -- `canonical_sum_pub` says what `canonical_dot_pub` says of n ones
   pub says-by-ones : sumSays x n ≡ dotSays x (replicate n one) n
-  unfolding sumSays dotSays
+  unfolding sumSays dotSays given
   says-by-ones = simp (length-replicate, le-ltb n n (le-refl n), sum-by-ones)

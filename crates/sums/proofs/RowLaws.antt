@@ -9,6 +9,7 @@ use lib.ListN.{length, take, drop, set}
 use lib.Seq.{take-at}
 use lib.Ieee.{Float}
 use Rattle.refusals.specs.Said.{value}
+use Rattle.refusals.specs.Refusals.{given}
 use Rattle.refusals.specs.Sizes.{mostIn}
 use Rattle.memory.specs.Lists.{table, filled}
 use Rattle.memory.proofs.Filled.{length-table, table-ext, Filling, filling-start, filling-more}
@@ -62,6 +63,6 @@ not-nought : (m : ℕ) → suc m ≡ 0 → ⊥
 not-nought m e = omega arith
 
 pub dot-answers : (x w : List Float) (n : ℕ) → n ≤ mostIn → n ≤ length x → n ≤ length w → dotSays x w n ≡ value (rowSum (products x w) n)
-unfolding dotSays rowSum tree met table
+unfolding dotSays given rowSum tree met table
 dot-answers x w zero most enough e = refl
 dot-answers x w (suc m) most enough e = simp (le-ltb _ _ most, ne-eqb _ _ (not-nought m), le-ltb _ _ e, le-ltb _ _ enough)

@@ -1,17 +1,17 @@
 -- A row: chunks are 8,192 long, and their sums meet in the same tree. Definitions only.
-use Prim.Native.Nat.{ℕ, _+_, _-_, _*_, _/_, min}
+use Prim.Native.Nat.{ℕ, _+_, _*_}
 use lib.Ieee.{Float}
-use Rattle.memory.specs.Lists.{table}
+use Rattle.memory.specs.Lists.{table, stretchesIn, stretchLength}
 use Rattle.sums_tree.specs.Tree.{tree}
 use Rattle.sums_lanes.specs.Lanes.{chunkSum}
 
--- how many chunks n places make: the last may be shorter
+-- how many chunks n places make
 abbrev pub chunksIn : ℕ → ℕ
-chunksIn n = (n + 8191) / 8192
+chunksIn n = stretchesIn 8192 n
 
--- how many places chunk c of n places has: 8,192, or as many as are left
+-- how many places chunk c of n places has
 abbrev pub chunkLength : ℕ → ℕ → ℕ
-chunkLength n c = min 8192 (n - 8192 * c)
+chunkLength n c = stretchLength 8192 n c
 
 -- the sum of chunk c of n terms
 unfoldable pub chunkAt : (ℕ → Float) → ℕ → ℕ → Float

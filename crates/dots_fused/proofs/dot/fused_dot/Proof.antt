@@ -4,6 +4,7 @@ use Prim.Native.Nat.{_*_, _/_}
 use lib.ListN.{length}
 use borrow.Author.Tests.{lt-ltb, le-ltb, eq-eqb, ne-eqb}
 use Rattle.refusals.specs.Said.{value}
+use Rattle.refusals.specs.Refusals.{given}
 use Rattle.layouts.specs.declared.format.Format.the-variants.{OfK}
 use Rattle.layouts.proofs.Sizes.{sizes, values-fit}
 use Rattle.dots_fused.specs.Says.{fusedSays}
@@ -27,11 +28,11 @@ mul-weights c =
     record { fits = values-fit (t .args .format) (c .block-bytes .result) (length (t .args .w .now)) (c .block-bytes .ensures) (omega arith) }
 
 returns : tie.Need-returns
-unfolding fusedSays
+unfolding fusedSays given
 returns c = simp (lt-ltb _ _ (c .if1 .taken))
 
 returns-2 : tie.Need-returns-2
-unfolding fusedSays
+unfolding fusedSays given
 returns-2 c =
     simp (
       sym (c .before .before .block-bytes .ensures),
@@ -40,7 +41,7 @@ returns-2 c =
     )
 
 returns-3 : tie.Need-returns-3
-unfolding fusedSays
+unfolding fusedSays given
 returns-3 c =
     simp (
       sym (c .before .before .before .block-bytes .ensures),
@@ -50,7 +51,7 @@ returns-3 c =
     )
 
 returns-4 : tie.Need-returns-4
-unfolding fusedSays
+unfolding fusedSays given
 returns-4 c =
     let b = c .before .before .before .before in
     let a = b .before .before .before .args in
@@ -63,7 +64,7 @@ returns-4 c =
     )
 
 returns-5 : tie.Need-returns-5
-unfolding fusedSays
+unfolding fusedSays given
 returns-5 c =
     simp (
       sym (c .before .before .before .before .before .block-bytes .ensures),
@@ -78,7 +79,7 @@ row-dot-requires : tie.Need-row-dot-requires
 row-dot-requires c κs = (omega arith, omega arith, rw (c .before .before .before .before .before .block-bytes .ensures) at (c .before .if4 .left))
 
 returns-6 : tie.Need-returns-6
-unfolding fusedSays
+unfolding fusedSays given
 returns-6 c =
     simp (
       sym (c .before .before .before .before .before .before .block-bytes .ensures),

@@ -11,7 +11,7 @@ use lib.ListN.{length, take, drop}
 use lib.Seq.{length-take-le, take-at}
 use lib.Ieee.{Float}
 use Rattle.refusals.specs.Said.{done}
-use Rattle.refusals.proofs.Laws.{carried-done, never-refused}
+use Rattle.refusals.proofs.Laws.{carried-value, never-refused}
 use Rattle.memory.specs.Lists.{table, filled}
 use Rattle.memory.proofs.Filled.{length-table, filled-none}
 use Rattle.memory.proofs.Parts.{within}
@@ -53,7 +53,7 @@ returns c =
     let nothing : s .batch * s .«out_feat» ≡ 0 = ap (λ (b : ℕ). b * s .«out_feat») (c .if1 .taken) ∙ zero-mul (s .«out_feat») in
     let last = filled (rowWeight (t .args .format) (t .args .w .now) (s .«in_feat») (s .«out_feat» - 1)) (t .args .scratch .now) (s .«in_feat») in
     both done (filled-none _ (t .args .y .now) ∙ ap (filled _ (t .args .y .now)) (sym nothing)) (sym (ap (λ (b : Bool). cond b (t .args .scratch .now) last) (eq-eqb _ _ nothing)))
-    ∙ sym (carried-done _ _ _ (t .pre))
+    ∙ sym (carried-value _ _ _ _ (t .pre))
 
 loop-holds : tie.Need-loop-holds Inv-loop μ-loop
 loop-holds c = (columns-none _ _ _ _, scratch-none _ _ _ _, zero-le, refl, refl)
@@ -205,7 +205,7 @@ returns-3 c =
     both done
     (l .inv .0 ∙ ap (columns v (s .batch) (s .«out_feat») (a .y .now)) last ∙ columns-all v (s .batch) (s .«out_feat») (a .y .now) (le-of-eq (sym (f .room))))
     (l .inv .1 ∙ ap (scratchOf (a .format) (a .w .now) n (a .scratch .now)) last ∙ scratch-last (a .format) (a .w .now) n (a .scratch .now) (s .batch) (s .«out_feat») (c .before .before .if1 .left))
-    ∙ sym (carried-done _ _ _ (t .pre))
+    ∙ sym (carried-value _ _ _ _ (t .pre))
 
 pub all-columns-spec : {M : Type 1} → statement M
 all-columns-spec =

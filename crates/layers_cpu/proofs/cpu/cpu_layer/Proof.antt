@@ -1,23 +1,26 @@
 -- `cpu::cpu_layer` meets its contract: a refusal, or every output. Assumes nothing.
-use mathlib.Core.Path.{sym}
 use native.Mathlib.Omega.{arith}
 use borrow.Author.Needs.{needs}
-use Rattle.refusals.proofs.Laws.{carried-refused}
+use Rattle.refusals.proofs.Laws.{check-passed, refused-out}
 use Rattle.layers_cpu.specs.Says.{cpuSays}
 use Rattle.layers_cpu.proofs.cpu.cpu_layer.Statement.{statement}
 use Rattle.layers_cpu.proofs.cpu.cpu_layer.Tie as tie
 
-cpu-no-requires : tie.Need-cpu-no-requires
-cpu-no-requires c κs = omega arith
+cpu-refusal-requires : tie.Need-cpu-refusal-requires
+cpu-refusal-requires c κs = omega arith
+
+enum-known-checked : tie.Need-enum-known-checked
+enum-known-checked c = search needs
 
 returns : tie.Need-returns
 unfolding cpuSays
-returns c =
-    let no = c .before .cpu-no in
-    rw (no .ensures) (sym (carried-refused _ _ _ (rw (no .ensures) at (c .if1 .taken))))
+returns c = refused-out _ _ (c .before .before .before .cpu-refusal .ensures) (c .before .checked .given .1)
+
+enum-told : tie.Need-enum-told
+enum-told c = search needs
 
 all-columns-requires : tie.Need-all-columns-requires
-all-columns-requires c κs = search needs
+all-columns-requires c κs = check-passed (c .before .before .cpu-refusal .ensures) (c .enum-told .given .1)
 
 same-length : tie.Need-same-length
 same-length c = search needs
@@ -32,8 +35,10 @@ pub cpu-layer-spec : {M : Type 1} → statement M
 cpu-layer-spec =
     tie.close
     (tie.spec
-    cpu-no-requires
+    cpu-refusal-requires
+    enum-known-checked
     returns
+    enum-told
     all-columns-requires
     same-length
     same-length-2

@@ -10,7 +10,7 @@ use lib.Arith.{digits-div, digits-mod}
 use lib.ListN.{length, take, drop}
 use lib.Ieee.{Float}
 use Rattle.refusals.specs.Said.{done}
-use Rattle.refusals.proofs.Laws.{carried-done, never-refused}
+use Rattle.refusals.proofs.Laws.{carried-value, never-refused}
 use Rattle.memory.specs.Lists.{table, filled, part}
 use Rattle.memory.proofs.Filled.{filled-none, part-length, part-turn}
 use Rattle.memory.proofs.Parts.{within}
@@ -156,7 +156,7 @@ returns-2 c =
     let outs = a .s .«out_feat» in
     let f : ℕ → Float = λ k. fusedDotAt (a .format) (part (a .x .now) (k / outs * a .s .«in_feat») (a .s .«in_feat»)) (a .w .now) (a .s .«in_feat») (k % outs) in
     let e : l .b ≡ a .s .batch = le-antisymm (l .inv .1) (c .loop-test .left) in
-    ap (λ (y : List Float). (done, y)) (l .inv .0 ∙ ap (λ (b : ℕ). filled f (a .y .now) (b * outs)) e) ∙ sym (carried-done _ _ _ (t .pre))
+    ap (λ (y : List Float). (done, y)) (l .inv .0 ∙ ap (λ (b : ℕ). filled f (a .y .now) (b * outs)) e) ∙ sym (carried-value _ _ _ _ (t .pre))
 
 pub all-rows-spec : {M : Type 1} → statement M
 all-rows-spec =

@@ -1,4 +1,4 @@
--- `checks::cpu_32_no` meets its contract: the checks in their order. Assumes nothing.
+-- `checks::cpu_32_refusal` meets its contract: the checks in their order. Assumes nothing.
 use mathlib.Core.Path.{sym, _∙_}
 use Prim.Native.Nat.{_*_, _/_, _≤_}
 use native.Mathlib.Omega.{arith}
@@ -7,9 +7,9 @@ use borrow.Author.Tests.{lt-ltb, le-ltb, eq-eqb, ne-eqb}
 use Rattle.refusals.specs.Refusals.{given}
 use Rattle.layouts.proofs.Sizes.{least-32}
 use Rattle.layers_shape.proofs.Fits.{InSizes, in-sizes, product-small}
-use Rattle.layers_cpu_checks.specs.Refusals.{cpuNo}
-use Rattle.layers_cpu_checks.proofs.checks.cpu_32_no.Statement.{statement}
-use Rattle.layers_cpu_checks.proofs.checks.cpu_32_no.Tie as tie
+use Rattle.layers_cpu_checks.specs.Refusals.{cpuRefusal}
+use Rattle.layers_cpu_checks.proofs.checks.cpu_32_refusal.Statement.{statement}
+use Rattle.layers_cpu_checks.proofs.checks.cpu_32_refusal.Tie as tie
 
 is-oversize-requires : tie.Need-is-oversize-requires
 is-oversize-requires c κs = search needs
@@ -19,11 +19,11 @@ sized : (c : tie.Else1) → InSizes (c .before .before .args .s)
 sized c = in-sizes (c .before .before .args .s) (sym (c .before .is-oversize .ensures) ∙ c .if1 .left)
 
 returns : tie.Need-returns
-unfolding cpuNo given
+unfolding cpuRefusal given
 returns c = simp (sym (c .before .is-oversize .ensures), c .if1 .taken)
 
 returns-2 : tie.Need-returns-2
-unfolding cpuNo given
+unfolding cpuRefusal given
 returns-2 c =
     let a = c .before .before in
     simp (sym (a .before .is-oversize .ensures), a .if1 .left, ne-eqb _ _ (c .if2 .taken))
@@ -49,7 +49,7 @@ mul-if3-2 c =
     omega (arith, product-small _ _ 65536 139264 (sized (b .before .before .before) .out-in) (row-small b))
 
 returns-3 : tie.Need-returns-3
-unfolding cpuNo given
+unfolding cpuRefusal given
 returns-3 c =
     let d = c .before .before .before .before in
     let a = d .before .before in
@@ -62,7 +62,7 @@ mul-if4 c =
     omega (arith, product-small _ _ 1024 131072 (z .batch-in) (z .in-in))
 
 returns-4 : tie.Need-returns-4
-unfolding cpuNo given
+unfolding cpuRefusal given
 returns-4 c =
     let e = c .before .before in
     let d = e .before .before .before .before in
@@ -76,7 +76,7 @@ mul-if5 c =
     omega (arith, product-small _ _ 1024 65536 (z .batch-in) (z .out-in))
 
 returns-5 : tie.Need-returns-5
-unfolding cpuNo given
+unfolding cpuRefusal given
 returns-5 c =
     let g = c .before .before in
     let e = g .before .before in
@@ -86,7 +86,7 @@ returns-5 c =
     simp (sym size, sym (a .before .is-oversize .ensures), a .if1 .left, eq-eqb _ _ (d .if2 .left), eq-eqb _ _ (e .if3 .left), eq-eqb _ _ (g .if4 .left), ne-eqb _ _ (c .if5 .taken))
 
 returns-6 : tie.Need-returns-6
-unfolding cpuNo given
+unfolding cpuRefusal given
 returns-6 c =
     let i = c .before .before in
     let g = i .before .before in
@@ -97,7 +97,7 @@ returns-6 c =
     simp (sym size, sym (a .before .is-oversize .ensures), a .if1 .left, eq-eqb _ _ (d .if2 .left), eq-eqb _ _ (e .if3 .left), eq-eqb _ _ (g .if4 .left), eq-eqb _ _ (i .if5 .left), lt-ltb _ _ (c .if6 .taken))
 
 returns-7 : tie.Need-returns-7
-unfolding cpuNo given
+unfolding cpuRefusal given
 returns-7 c =
     let i = c .before .before in
     let g = i .before .before in
@@ -107,8 +107,8 @@ returns-7 c =
     let size = e .before .before .before .block-bytes .ensures in
     simp (sym size, sym (a .before .is-oversize .ensures), a .if1 .left, eq-eqb _ _ (d .if2 .left), eq-eqb _ _ (e .if3 .left), eq-eqb _ _ (g .if4 .left), eq-eqb _ _ (i .if5 .left), le-ltb _ _ (c .if6 .left))
 
-pub cpu-32-no-spec : {M : Type 1} → statement M
-cpu-32-no-spec =
+pub cpu-32-refusal-spec : {M : Type 1} → statement M
+cpu-32-refusal-spec =
     tie.close
     (tie.spec
     is-oversize-requires

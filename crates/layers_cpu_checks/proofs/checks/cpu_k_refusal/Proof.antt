@@ -1,4 +1,4 @@
--- `checks::cpu_k_no` meets its contract: the checks in their order. Assumes nothing.
+-- `checks::cpu_k_refusal` meets its contract: the checks in their order. Assumes nothing.
 use mathlib.Core.Path.{sym, _∙_}
 use native.Mathlib.Omega.{arith}
 use borrow.Author.Needs.{needs}
@@ -7,9 +7,9 @@ use Rattle.refusals.specs.Refusals.{given}
 use Rattle.layouts.specs.declared.format.Format.the-variants.{OfK}
 use Rattle.layouts.proofs.Sizes.{sizes, values-fit}
 use Rattle.layers_shape.proofs.Fits.{InSizes, in-sizes, product-small}
-use Rattle.layers_cpu_checks.specs.Refusals.{cpuNo}
-use Rattle.layers_cpu_checks.proofs.checks.cpu_k_no.Statement.{statement}
-use Rattle.layers_cpu_checks.proofs.checks.cpu_k_no.Tie as tie
+use Rattle.layers_cpu_checks.specs.Refusals.{cpuRefusal}
+use Rattle.layers_cpu_checks.proofs.checks.cpu_k_refusal.Statement.{statement}
+use Rattle.layers_cpu_checks.proofs.checks.cpu_k_refusal.Tie as tie
 
 is-oversize-requires : tie.Need-is-oversize-requires
 is-oversize-requires c κs = search needs
@@ -19,7 +19,7 @@ sized : (c : tie.Else1) → InSizes (c .before .before .args .s)
 sized c = in-sizes (c .before .before .args .s) (sym (c .before .is-oversize .ensures) ∙ c .if1 .left)
 
 returns : tie.Need-returns
-unfolding cpuNo given
+unfolding cpuRefusal given
 returns c = simp (sym (c .before .is-oversize .ensures), c .if1 .taken)
 
 mul-if2 : tie.Need-mul-if2
@@ -28,7 +28,7 @@ mul-if2 c =
     omega (arith, product-small _ _ 1024 131072 (z .batch-in) (z .in-in))
 
 returns-2 : tie.Need-returns-2
-unfolding cpuNo given
+unfolding cpuRefusal given
 returns-2 c =
     let a = c .before .before in
     simp (sym (a .before .is-oversize .ensures), a .if1 .left, ne-eqb _ _ (c .if2 .taken))
@@ -39,7 +39,7 @@ mul-if3 c =
     omega (arith, product-small _ _ 1024 65536 (z .batch-in) (z .out-in))
 
 returns-3 : tie.Need-returns-3
-unfolding cpuNo given
+unfolding cpuRefusal given
 returns-3 c =
     let b = c .before .before in
     let a = b .before .before in
@@ -52,7 +52,7 @@ rem-if4 : tie.Need-rem-if4
 rem-if4 c = omega (arith, sizes (OfK (c .before .before .before .before .before .before .before .args .format)), c .block-bytes .ensures)
 
 returns-4 : tie.Need-returns-4
-unfolding cpuNo given
+unfolding cpuRefusal given
 returns-4 c =
     let d = c .before .before in
     let b = d .before .before in
@@ -74,7 +74,7 @@ mul-if5-2 c =
     omega (arith, product-small _ _ 65536 131072 (z .out-in) (z .in-in))
 
 returns-5 : tie.Need-returns-5
-unfolding cpuNo given
+unfolding cpuRefusal given
 returns-5 c =
     let e = c .before .before in
     let d = e .before .before in
@@ -84,7 +84,7 @@ returns-5 c =
     simp (sym size, sym (a .before .is-oversize .ensures), a .if1 .left, eq-eqb _ _ (b .if2 .left), eq-eqb _ _ (d .if3 .left), eq-eqb _ _ (e .if4 .left), ne-eqb _ _ (c .if5 .taken))
 
 returns-6 : tie.Need-returns-6
-unfolding cpuNo given
+unfolding cpuRefusal given
 returns-6 c =
     let g = c .before .before in
     let e = g .before .before in
@@ -95,7 +95,7 @@ returns-6 c =
     simp (sym size, sym (a .before .is-oversize .ensures), a .if1 .left, eq-eqb _ _ (b .if2 .left), eq-eqb _ _ (d .if3 .left), eq-eqb _ _ (e .if4 .left), eq-eqb _ _ (g .if5 .left), lt-ltb _ _ (c .if6 .taken))
 
 returns-7 : tie.Need-returns-7
-unfolding cpuNo given
+unfolding cpuRefusal given
 returns-7 c =
     let g = c .before .before in
     let e = g .before .before in
@@ -105,8 +105,8 @@ returns-7 c =
     let size = e .before .block-bytes .ensures in
     simp (sym size, sym (a .before .is-oversize .ensures), a .if1 .left, eq-eqb _ _ (b .if2 .left), eq-eqb _ _ (d .if3 .left), eq-eqb _ _ (e .if4 .left), eq-eqb _ _ (g .if5 .left), le-ltb _ _ (c .if6 .left))
 
-pub cpu-k-no-spec : {M : Type 1} → statement M
-cpu-k-no-spec =
+pub cpu-k-refusal-spec : {M : Type 1} → statement M
+cpu-k-refusal-spec =
     tie.close
     (tie.spec
     is-oversize-requires
