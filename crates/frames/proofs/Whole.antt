@@ -9,8 +9,7 @@ use lib.Dec.{leb, eqb}
 use lib.ListN.{length, drop}
 use Rattle.memory.specs.Lists.{part}
 use Rattle.numbers.specs.Fields.{le16, le32}
-use Rattle.frames.specs.declared.frame.Front.the-variants.{Ended, Torn, Whole}
-use Rattle.frames.specs.Frame.{goodLength, sizeOf, isWhole, Frame, ended, torn, whole, frameOf, frontOf, payloadOf, restOf}
+use Rattle.frames.specs.Frame.{goodLength, sizeOf, isWhole, ended, torn, whole, frameOf, payloadOf, restOf}
 
 pub both : (a b : Bool) → (a && b) ≡ true → (a ≡ true) × (b ≡ true)
 both true b e = (refl, e)
@@ -65,20 +64,3 @@ module _ (s : List ℕ) where
       go : (b : Bool) → eqb (length s) 0 ≡ b → (payloadOf (frameOf s) ≡ []) × (restOf (frameOf s) ≡ [])
       go true z = (simp z, simp z)
       go false z = (simp (z, e), simp (z, e))
-
--- ---- what the code's word says of a frame
-
-pub is-ended : (f : Frame) → frontOf f ≡ Ended → f ≡ ended
-is-ended ended e = refl
-is-ended torn e = cc
-is-ended (whole kind p r) e = cc
-
-pub is-torn : (f : Frame) → frontOf f ≡ Torn → f ≡ torn
-is-torn ended e = cc
-is-torn torn e = refl
-is-torn (whole kind p r) e = cc
-
-pub is-whole : (f : Frame) (kind : ℕ) → frontOf f ≡ Whole kind → f ≡ whole kind (payloadOf f) (restOf f)
-is-whole ended kind e = cc
-is-whole torn kind e = cc
-is-whole (whole k p r) kind e = cc
