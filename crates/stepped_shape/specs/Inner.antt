@@ -2,15 +2,17 @@
 -- buffer goes in by its length.
 use Prim.Native.Nat.{ℕ, _≤_, _<_}
 use mathlib.Core.Path.{_≡_}
-use Rattle.refusals.specs.Refusals.{none}
+use Rattle.refusals.specs.Said.{done}
+use Rattle.layouts.specs.declared.format.FormatK.{FormatK}
+use Rattle.layers_shape.specs.Shapes.{weightBytes}
 use Rattle.stepped_shape.specs.declared.shape.Layer.{Layer}
-use Rattle.stepped_shape.specs.Layer.{chunks, pieces, weightNeed}
-use Rattle.stepped_shape.specs.Refusals.{shapeNo}
+use Rattle.stepped_shape.specs.Layer.{chunks, pieces}
+use Rattle.stepped_shape.specs.Refusals.{shapeRefusal}
 
 -- the layer's shape, and weights and readings for all of it
-pub record LayerReady (l : Layer) (weights readings : ℕ) : Type 0 where
-  pub shape : shapeNo l ≡ none
-  pub weights-enough : weightNeed l ≤ weights
+pub record LayerReady (f : FormatK) (l : Layer) (weights readings : ℕ) : Type 0 where
+  pub shape : shapeRefusal l ≡ done
+  pub weights-enough : weightBytes f (l .«in_feat») (l .«out_feat») ≤ weights
   pub readings-enough : l .«in_feat» ≤ readings
 
 -- a slot and a mark for each piece
