@@ -1,28 +1,27 @@
--- `closing::meet` meets its contract: after c chunks the copy has their slots. Assumes nothing.
+-- `rows::meet` meets its contract: after c chunks the copy has their slots. Assumes nothing.
 use native.Mathlib.Nat.{add-zero}
 use native.Mathlib.Omega.{arith}
 use mathlib.Core.Path.{_≡_, refl, sym, ap, _∙_}
 use mathlib.Core.List.{List}
 use Prim.Native.Nat.{ℕ, _≤_, _+_, _-_, _*_}
-use lib.ListN.{length, getD}
-use lib.Seq.{length-take-le}
+use lib.ListN.{length, getD, take, drop}
+use lib.Seq.{take-at, length-take-le}
 use lib.Ieee.{Float, nan}
 use denote.Ref.{now}
-use Rattle.memory.specs.Lists.{table}
-use Rattle.memory.proofs.Filled.{Filling, filling-start, filling-more}
+use Rattle.memory.specs.Lists.{table, filled}
+use Rattle.memory.proofs.Filled.{length-table, Filling, filling-start, filling-more}
 use Rattle.sums_tree.specs.Tree.{pairUp, met, tree}
 use Rattle.stepped_shape.specs.Layer.{chunks, pieces, place}
 use Rattle.stepped_shape.proofs.Shapes.{row-within, few-chunks, few-pieces}
-use Rattle.stepped.specs.Says.{rowMet}
-use Rattle.stepped.proofs.Lists.{filled-front}
-use Rattle.stepped.proofs.closing.meet.Statement.{statement}
-use Rattle.stepped.proofs.closing.meet.Tie as tie
+use Rattle.stepped_pieces.specs.Pieces.{rowMet}
+use Rattle.stepped_pieces.proofs.rows.meet.Statement.{statement}
+use Rattle.stepped_pieces.proofs.rows.meet.Tie as tie
 
 abbrev Inv-loop : tie.InvT-loop
-Inv-loop row slots n at parts₀ c₀ parts c = (c ≤ n) × Filling (λ i. getD slots (at + i) nan) parts₀ 16 parts c
+Inv-loop row slots n at sums₀ c₀ sums c = (c ≤ n) × Filling (λ i. getD slots (at + i) nan) sums₀ 16 sums c
 
 abbrev μ-loop : tie.MeasureT-loop
-μ-loop row slots n at parts₀ c₀ parts c = n - c
+μ-loop row slots n at sums₀ c₀ sums c = n - c
 
 chunks-of-requires : tie.Need-chunks-of-requires Inv-loop μ-loop
 chunks-of-requires c κs = c .before .pre .0
@@ -49,6 +48,10 @@ tree-of-one : (f : ℕ → Float) (n : ℕ) → n ≡ 1 → tree (table f n) ≡
 unfolding tree met pairUp table
 tree-of-one f n e = rw e refl
 
+-- the front of a list that is filled so far
+filled-front : (f : ℕ → Float) (xs ys : List Float) (i n : ℕ) → i ≡ n → ys ≡ filled f xs i → take n ys ≡ table f n
+filled-front f xs ys i n e h = ap (take n) (h ∙ ap (filled f xs) e) ∙ take-at (table f n) (drop n xs) n (length-table f n)
+
 returns : tie.Need-returns Inv-loop μ-loop
 unfolding rowMet place
 returns c =
@@ -62,20 +65,20 @@ returns c =
 loop-holds : tie.Need-loop-holds Inv-loop μ-loop
 loop-holds c = (omega arith, filling-start _ _ 16 refl)
 
-add-parts : tie.Need-add-parts Inv-loop μ-loop
-add-parts c = omega (arith, row-in (c .before .before .before))
+add-sums : tie.Need-add-sums Inv-loop μ-loop
+add-sums c = omega (arith, row-in (c .before .before .before))
 
-mul-parts : tie.Need-mul-parts Inv-loop μ-loop
-mul-parts c = omega (arith, row-in (c .before .before .before))
+mul-sums : tie.Need-mul-sums Inv-loop μ-loop
+mul-sums c = omega (arith, row-in (c .before .before .before))
 
-shared-slice-read-parts : tie.Need-shared-slice-read-parts Inv-loop μ-loop
-shared-slice-read-parts c = omega (arith, row-in (c .before .before .before .before))
+shared-slice-read-sums : tie.Need-shared-slice-read-sums Inv-loop μ-loop
+shared-slice-read-sums c = omega (arith, row-in (c .before .before .before .before))
 
-mul-parts-2 : tie.Need-mul-parts-2 Inv-loop μ-loop
-mul-parts-2 c = omega (arith, row-in (c .before .before .before .before))
+mul-sums-2 : tie.Need-mul-sums-2 Inv-loop μ-loop
+mul-sums-2 c = omega (arith, row-in (c .before .before .before .before))
 
-array-write-parts : tie.Need-array-write-parts Inv-loop μ-loop
-array-write-parts c = omega (arith, row-in (c .before .before .before .before))
+array-write-sums : tie.Need-array-write-sums Inv-loop μ-loop
+array-write-sums c = omega (arith, row-in (c .before .before .before .before))
 
 add-c : tie.Need-add-c Inv-loop μ-loop
 add-c c = omega (arith, row-in (c .before .before .before .before))
@@ -86,13 +89,13 @@ loop-less c = omega arith
 loop-again : tie.Need-loop-again Inv-loop μ-loop
 loop-again c =
     let k = c .before .before in
-    (omega arith, filling-more _ _ 16 (k .loop .parts) (k .loop .c) _ refl (k .loop .inv .1) (omega (arith, row-in (k .before .before))) refl)
+    (omega arith, filling-more _ _ 16 (k .loop .sums) (k .loop .c) _ refl (k .loop .inv .1) (omega (arith, row-in (k .before .before))) refl)
 
-array-borrow-prefix-parts : tie.Need-array-borrow-prefix-parts Inv-loop μ-loop
-array-borrow-prefix-parts c = let k = c .before in omega (arith, row-in (k .before .before), k .loop .inv .1 .2)
+array-borrow-prefix-sums : tie.Need-array-borrow-prefix-sums Inv-loop μ-loop
+array-borrow-prefix-sums c = let k = c .before in omega (arith, row-in (k .before .before), k .loop .inv .1 .2)
 
 slice-aggregate-canonical-combine : tie.Need-slice-aggregate-canonical-combine Inv-loop μ-loop
-slice-aggregate-canonical-combine c = sym (length-take-le _ _ (array-borrow-prefix-parts (c .before)))
+slice-aggregate-canonical-combine c = sym (length-take-le _ _ (array-borrow-prefix-sums (c .before)))
 
 canonical-combine-requires : tie.Need-canonical-combine-requires Inv-loop μ-loop
 canonical-combine-requires c κs = omega arith
@@ -105,7 +108,7 @@ returns-2 c =
     let n = k .before .before .chunks-of in
     let a = k .before .before .before .before .args in
     ap (λ (p : Float × List Float). p .0) (q .canonical-combine .ensures)
-    ∙ ap tree (filled-front _ _ (k .loop .parts) (k .loop .c) (n .result) (omega arith) (k .loop .inv .1 .0))
+    ∙ ap tree (filled-front _ _ (k .loop .sums) (k .loop .c) (n .result) (omega arith) (k .loop .inv .1 .0))
     ∙ ap (λ (m : ℕ). tree (table (λ i. getD (now (a .slots)) (a .row * m + i) nan) m)) (n .ensures)
 
 pub meet-spec : {M : Type 1} → statement M
@@ -120,15 +123,15 @@ meet-spec =
     shared-slice-read-result
     returns
     loop-holds
-    add-parts
-    mul-parts
-    shared-slice-read-parts
-    mul-parts-2
-    array-write-parts
+    add-sums
+    mul-sums
+    shared-slice-read-sums
+    mul-sums-2
+    array-write-sums
     add-c
     loop-less
     loop-again
-    array-borrow-prefix-parts
+    array-borrow-prefix-sums
     slice-aggregate-canonical-combine
     canonical-combine-requires
     returns-2)
