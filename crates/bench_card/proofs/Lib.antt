@@ -1,3 +1,2 @@
--- The bench card holds, and what the program is to judge of it.
-pub mod Card
-pub mod Judged
+-- How the count of wrong rows grows.
+pub mod Counted

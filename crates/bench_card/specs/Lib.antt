@@ -1,4 +1,2 @@
--- Document 01's bench card, the program's rows, and the cases that are run only.
-pub mod Card
-pub mod Rows
+-- The cases that are run only.
 pub mod RunOnly

@@ -1,13 +1,15 @@
-// The K formats: 256 values to a block, each a whole number times the scale of its place, and in Q4_K less a minimum.
+// The K formats: 256 values to a block, each a whole number times the scale of its place, less its minimum where the
+// format has minimums.
 use crate::of32::scale_run;
 use layouts::FormatK;
 ghost use mathlib.Core.Path.{_≡_};
+ghost use Prim.Native.Nat.{_≤_};
 ghost use lib.IntN.{pos};
 ghost use lib.ListN.{length, getD};
 ghost use lib.Ieee.{binary32, mul, sub, ofInt};
 ghost use Rattle.memory.specs.Lists.{table};
 ghost use Rattle.layouts.specs.Formats.{bytesK};
-ghost use Rattle.layouts.specs.K.{valueK};
+ghost use Rattle.layouts.specs.K.{valueOf, valueK};
 
 // A run of 16 whole numbers, each times the scale s, less the minimum m.
 fn scale_run_less(q: &[u8], s: f32, m: f32, out: &mut [f32])
@@ -20,14 +22,14 @@ fn scale_run_less(q: &[u8], s: f32, m: f32, out: &mut [f32])
     }
 }
 
-// One Q4_K block's 256 values, a run of 16 a turn.
-fn decode_q4k(block: &[u8], out: &mut [f32])
-    requires { ⌜ (length (now block) ≡ 144) × (length (now out) ≡ 256) ⌝ }
-    ensures { λ _. ⌜ now (out .exit) ≡ table (valueK FormatK.Q4K (now (block .entry))) 256 ⌝ }
+// The 256 values of a block with minimums, whose whole numbers are q, a run of 16 a turn.
+fn decode_sub_blocks(block: &[u8], q: &[u8], out: &mut [f32])
+    requires { ⌜ (16 ≤ length (now block)) × (length (now q) ≡ 256) × (length (now out) ≡ 256) ⌝ }
+    ensures { λ _. ⌜ now (out .exit)
+        ≡ table (λ i. valueOf FormatK.Q4K (now (block .entry)) i (pos (getD (now (q .entry)) i 0))) 256 ⌝ }
 {
     let scales = k_layouts::scales_q4k(block);
     let minimums = k_layouts::minimums_q4k(block);
-    let q = k_layouts::quants_q4k(block);
     for e in 0..16usize {
         let at = 16 * e;
         let end = at + 16;
@@ -40,13 +42,13 @@ fn decode_q4k(block: &[u8], out: &mut [f32])
     }
 }
 
-// One Q6_K block's 256 values, a run of 16 a turn.
-fn decode_q6k(block: &[u8], out: &mut [f32])
-    requires { ⌜ (length (now block) ≡ 210) × (length (now out) ≡ 256) ⌝ }
-    ensures { λ _. ⌜ now (out .exit) ≡ table (valueK FormatK.Q6K (now (block .entry))) 256 ⌝ }
+// The 256 values of a Q6_K block, whose whole numbers are q, a run of 16 a turn.
+fn decode_runs(block: &[u8], q: &[i8], out: &mut [f32])
+    requires { ⌜ (length (now block) ≡ 210) × (length (now q) ≡ 256) × (length (now out) ≡ 256) ⌝ }
+    ensures { λ _. ⌜ now (out .exit)
+        ≡ table (λ i. valueOf FormatK.Q6K (now (block .entry)) i (getD (now (q .entry)) i (pos 0))) 256 ⌝ }
 {
     let scales = k_layouts::scales_q6k(block);
-    let q = k_layouts::quants_q6k(block);
     for e in 0..16usize {
         let at = 16 * e;
         let end = at + 16;
@@ -60,7 +62,13 @@ pub fn decode_k(format: FormatK, block: &[u8], out: &mut [f32])
     ensures { λ _. ⌜ now (out .exit) ≡ table (valueK format (now (block .entry))) 256 ⌝ }
 {
     match format {
-        FormatK::Q4K => decode_q4k(block, out),
-        FormatK::Q6K => decode_q6k(block, out),
+        FormatK::Q4K => {
+            let q = k_layouts::quants_q4k(block);
+            decode_sub_blocks(block, &q, out)
+        }
+        FormatK::Q6K => {
+            let q = k_layouts::quants_q6k(block);
+            decode_runs(block, &q, out)
+        }
     }
 }

@@ -1,3 +1,4 @@
 -- What several proofs of `decoders` share.
 pub mod Refused
 pub mod Unique
+pub mod WholeRows

@@ -6,15 +6,16 @@ use layouts::Format32;
 use layouts::FormatK;
 use layouts::block_bytes;
 use layouts::block_values;
+use refusals::Check;
 use refusals::Outcome;
 ghost use mathlib.Core.Path.{_≡_};
 ghost use Prim.Native.Nat.{_≤_};
 ghost use lib.ListN.{length};
-ghost use Rattle.refusals.specs.Said.{outcomeSays};
+ghost use Rattle.refusals.specs.Said.{checkSays, outcomeSays};
 ghost use Rattle.memory.specs.Lists.{table, filled};
 ghost use Rattle.layouts.specs.Formats.{blockBytes, blockValues};
 ghost use Rattle.layouts.specs.Weights.{valueIn, weightAt, valuesOf};
-ghost use Rattle.decoders.specs.Says.{dequantizeNo, dequantizeSays};
+ghost use Rattle.decoders.specs.Says.{dequantizeRefusal, dequantizeSays};
 
 // One block's values.
 fn decode_block(format: Format, block: &[u8], out: &mut [f32])
@@ -48,30 +49,30 @@ pub fn decode_blocks(format: Format, bytes: &[u8], out: &mut [f32])
     }
 }
 
-// Why a decoder of n bytes into `room` places says no; 0 where it does not.
-fn dequantize_no(format: Format, n: usize, room: usize) -> u32
-    ensures { λ r. ⌜ r ≡ dequantizeNo format n room ⌝ }
+// Why a decoder of n bytes into `room` places refuses.
+fn dequantize_refusal(format: Format, n: usize, room: usize) -> Check
+    ensures { λ r. ⌜ checkSays r ≡ dequantizeRefusal format n room ⌝ }
 {
     let size = block_bytes(format);
     if n > refusals::MOST_BYTES {
-        return refusals::TOO_LARGE;
+        return Check::Refused(refusals::TOO_LARGE);
     }
     if n % size != 0 {
-        return refusals::NOT_WHOLE_BLOCKS;
+        return Check::Refused(refusals::NOT_WHOLE_BLOCKS);
     }
     if room < n / size * block_values(format) {
-        return refusals::ROOM_SHORT;
+        return Check::Refused(refusals::ROOM_SHORT);
     }
-    0
+    Check::Passed
 }
 
 fn dequantize(format: Format, bytes: &[u8], out: &mut [f32]) -> Outcome
     ensures { λ r. ⌜ (outcomeSays r, now (out .exit))
         ≡ dequantizeSays format (now (bytes .entry)) (now (out .entry)) ⌝ }
 {
-    let no = dequantize_no(format, bytes.len(), out.len());
-    if no != 0 {
-        return Outcome::Refused(no);
+    let checked = dequantize_refusal(format, bytes.len(), out.len());
+    if let Check::Refused(refusal) = checked {
+        return Outcome::Refused(refusal);
     }
     decode_blocks(format, bytes, out);
     Outcome::Done

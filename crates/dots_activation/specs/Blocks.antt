@@ -5,17 +5,17 @@ use mathlib.Core.List.{List}
 use lib.Dec.{ltb}
 use lib.IntN.{ℤ, pos}
 use lib.ListN.{getD, length, replicate}
-use lib.Ieee.{Float, nan, binary32, ofBits, mul, div}
-use Rattle.memory.specs.Lists.{table}
+use lib.Ieee.{Float, nan, binary32, mul}
+use Rattle.refusals.specs.Said.{Said, value, refused, no}
+use Rattle.refusals.specs.Refusals.{given}
+use Rattle.refusals.specs.declared.Check.{Check}
+use Rattle.refusals.specs.declared.Check.the-variants as check
+use Rattle.memory.specs.Lists.{table, every}
 use Rattle.numbers.specs.Steps.{nought}
-use Rattle.readings.specs.Readings.{largest, inverse, quantQ8}
+use Rattle.readings.specs.Readings.{scaleQ8, inverse, quantQ8}
 use Rattle.dots_activation.specs.declared.block.Q8Block.{Q8Block}
 use Rattle.dots_activation.specs.declared.block.Quantized.{Quantized}
-use Rattle.dots_activation.specs.Whole.{elem, sumℤ, eqZ, every, Within}
-
--- d = largest/127
-abbrev pub scaleQ8 : List Float → Float
-scaleQ8 xs = div binary32 (largest xs (length xs)) (ofBits binary32 0x42fe_0000)
+use Rattle.dots_activation.specs.Whole.{elem, sumℤ, eqZ, Within}
 
 -- each reading times the inverse, as a Q8 quant; quants past the readings are 0
 abbrev pub quantAt : List Float → Float → ℕ → ℤ
@@ -33,26 +33,31 @@ sumOf32 qs j = sumℤ (λ (l : ℕ). elem qs (32 * j + l)) 32
 abbrev pub sumsOf : List ℤ → List ℤ
 sumsOf qs = table (sumOf32 qs) 8
 
--- a block that is held as its parts: its scale, its quants and its sums
-abbrev pub heldBlock : Float → List ℤ → List ℤ → Q8Block
-heldBlock d qs sums = record { d = d; qs = qs; bsums = sums }
-
 -- An activation block has one float scale, 256 signed quants and eight sums of 32: the block of a scale and its quants
 -- ..
 abbrev pub blockWith : Float → List ℤ → Q8Block
-blockWith d qs = heldBlock d qs (sumsOf qs)
+blockWith d qs = record { d = d; qs = qs; bsums = sumsOf qs }
 
 -- .. and of at most 256 readings.
 unfoldable pub blockOf : List Float → Q8Block
 blockOf xs = blockWith (scaleQ8 xs) (quantsOf xs)
 
--- the block beside a refusal: nothing but zeros
-abbrev pub noBlock : Q8Block
-noBlock = record { d = nought; qs = replicate 256 (pos 0); bsums = replicate 8 (pos 0) }
+-- `quantize_block_q8`: 4 for more than 256 readings; and otherwise the block
+unfoldable pub quantizeSays : List Float → Said Q8Block
+quantizeSays xs = given (no 4) (ltb 256 (length xs)) (value (blockOf xs))
 
--- `quantize_block_q8`: 4 for more than 256 readings; and otherwise the block, with the number 0
-unfoldable pub quantized : List Float → Quantized
-quantized xs = cond (ltb 256 (length xs)) (record { no = 4; block = noBlock }) (record { no = 0; block = blockOf xs })
+-- what an answer of a check and a block beside it say
+abbrev pub checkedSays : Check → Q8Block → Said Q8Block
+checkedSays check.Passed b = value b
+checkedSays (check.Refused why) b = refused why
+
+abbrev pub quantizedSays : Quantized → Said Q8Block
+quantizedSays r = checkedSays (r .checked) (r .block)
+
+-- the block that is answered: beside a refusal it has nothing but zeros
+abbrev pub blockSaid : Said Q8Block → Q8Block
+blockSaid (value b) = b
+blockSaid (refused why) = record { d = nought; qs = replicate 256 (pos 0); bsums = replicate 8 (pos 0) }
 
 -- sum j of a block is the sum of its 32
 abbrev pub rightAt : Q8Block → ℕ → Bool
@@ -62,6 +67,6 @@ rightAt b j = eqZ (sumOf32 (b .qs) j) (elem (b .bsums) j)
 unfoldable pub sumsRight : Q8Block → Bool
 sumsRight b = every (rightAt b) 8
 
--- each of a block's eight sums is at most 4,096 in size, as a sum of 32 signed bytes is
-pub record SmallSums (b : Q8Block) : Type 0 where
-  pub near : (j : ℕ) → j < 8 → Within 4096 (elem (b .bsums) j)
+-- each of eight sums is at most 4,096 in size, as a sum of 32 signed bytes is
+pub record SmallSums (sums : List ℤ) : Type 0 where
+  pub near : (j : ℕ) → j < 8 → Within 4096 (elem sums j)

@@ -1,6 +1,6 @@
 -- Whole numbers: sums over a range of places, and how large a number is. Definitions only.
 use Prim.Native.Nat.{ℕ, zero, suc, _≤_}
-use mathlib.Core.Bool.{Bool, true, false, cond}
+use mathlib.Core.Bool.{Bool, false}
 use mathlib.Core.List.{List}
 use lib.Dec.{eqb}
 use lib.IntN.{ℤ, pos, negsuc, natAbs, _+ℤ_}
@@ -25,8 +25,3 @@ eqZ (pos a) (pos b) = eqb a b
 eqZ (pos a) (negsuc b) = false
 eqZ (negsuc a) (pos b) = false
 eqZ (negsuc a) (negsuc b) = eqb a b
-
--- p holds at 0, 1, .., k - 1
-unfoldable pub every : (ℕ → Bool) → ℕ → Bool
-every p zero = true
-every p (suc k) = cond (every p k) (p k) false

@@ -1,4 +1,5 @@
 // The activation block: how it is made of readings, and whether its sums are the sums of its 32s.
+use refusals::Check;
 ghost use mathlib.Core.Path.{_≡_};
 ghost use Prim.Native.Nat.{_≤_, _<_};
 ghost use mathlib.Core.Bool.{true};
@@ -8,7 +9,7 @@ ghost use lib.ListN.{length};
 ghost use Rattle.memory.specs.Lists.{table};
 ghost use Rattle.dots_activation.specs.Whole.{elem, Within};
 ghost use Rattle.dots_activation.specs.Blocks.{quantAt, sumOf32, sumsOf, rightAt, sumsRight, SmallSums};
-ghost use Rattle.dots_activation.specs.Blocks.{blockWith, blockOf, quantized};
+ghost use Rattle.dots_activation.specs.Blocks.{blockWith, blockOf, quantizeSays, quantizedSays, blockSaid};
 
 // One float scale, 256 signed quants and eight sums of 32. It is made by `block_with` and read by the block dots.
 pub struct Q8Block {
@@ -17,10 +18,10 @@ pub struct Q8Block {
     pub bsums: [i32; 8],
 }
 
-// What the quantizer of a block answers: 0 and the block, or the number that says no and a block of zeros, since an
-// enum cannot hold arrays.
+// What the quantizer of a block answers: the block, or why it says no beside a block of zeros, since an enum cannot
+// hold arrays.
 pub struct Quantized {
-    pub no: u32,
+    pub checked: Check,
     pub block: Q8Block,
 }
 
@@ -71,7 +72,7 @@ fn sum_right(block: Q8Block, j: usize) -> bool
 
 // Whether the block's sums are the sums of its 32s.
 pub fn sums_right(block: Q8Block) -> bool
-    ensures { λ r. ⌜ (r ≡ sumsRight block) × (r ≡ true → SmallSums block) ⌝ }
+    ensures { λ r. ⌜ (r ≡ sumsRight block) × (r ≡ true → SmallSums (block .bsums)) ⌝ }
 {
     for j in 0..8usize {
         if !sum_right(block, j) {
@@ -106,13 +107,14 @@ pub fn quantized_block(x: &[f32]) -> Q8Block
     requires { ⌜ length (now x) ≤ 256 ⌝ }
     ensures { λ r. ⌜ r ≡ blockOf (now (x .entry)) ⌝ }
 {
-    let d = readings::largest_magnitude(x) / 127.0;
+    let d = readings::scale_q8(x);
     block_with(d, quants_of(x, readings::inverse_of(d)))
 }
 
 // The block of the readings. Refuses 4 for more than 256 of them.
 pub fn quantize_block_q8(x: &[f32]) -> Quantized
-    ensures { λ r. ⌜ r ≡ quantized (now (x .entry)) ⌝ }
+    ensures { λ r. ⌜ (quantizedSays r ≡ quantizeSays (now (x .entry)))
+        × (r .block ≡ blockSaid (quantizeSays (now (x .entry)))) ⌝ }
 {
     if x.len() > 256 {
         let block = Q8Block {
@@ -121,10 +123,13 @@ pub fn quantize_block_q8(x: &[f32]) -> Quantized
             bsums: [0i32; 8],
         };
         return Quantized {
-            no: refusals::READINGS_SHORT,
+            checked: Check::Refused(refusals::READINGS_SHORT),
             block,
         };
     }
     let block = quantized_block(x);
-    Quantized { no: 0, block }
+    Quantized {
+        checked: Check::Passed,
+        block,
+    }
 }

@@ -1,21 +1,22 @@
 -- The fused dot is decoding the row and taking its dot: the same value, and the same refusals. Assumes nothing.
+use Prim.{Unit}
 use mathlib.Core.Path.{_≡_, sym, ap, _∙_}
 use mathlib.Core.List.{List}
 use Prim.Native.Nat.{ℕ, _%_, _≤_, _<_}
 use native.Mathlib.Nat.{le-refl, le-trans, lt-of-lt-of-le}
 use borrow.Author.Tests.{le-ltb, eq-eqb, eqb-true, not-false}
-use lib.Dec.{lit<}
 use lib.ListN.{length, getD, drop, List·getD-append}
 use lib.Ieee.{Float, nan, binary32, mul}
 use Rattle.refusals.specs.Said.{Said, done}
-use Rattle.refusals.proofs.Laws.{given-none, carried-done, carried-none}
+use Rattle.refusals.specs.Refusals.{given}
+use Rattle.refusals.proofs.Laws.{given-passed, carried-value, carried-said}
 use Rattle.memory.specs.Lists.{table, filled}
 use Rattle.memory.proofs.Filled.{length-table, getD-table, length-filled}
 use Rattle.layouts.specs.Formats.{bytesK}
 use Rattle.layouts.specs.Weights.{weightAt, valuesOf}
 use Rattle.layouts.specs.declared.format.FormatK.{FormatK}
 use Rattle.layouts.specs.declared.format.Format.the-variants.{OfK}
-use Rattle.decoders.specs.Says.{dequantizeNo, dequantizeSays}
+use Rattle.decoders.specs.Says.{dequantizeRefusal, dequantizeSays}
 use Rattle.decoders.proofs.Refused.{room-for-values}
 use Rattle.sums_lanes.specs.Lanes.{products}
 use Rattle.sums.specs.Rows.{rowSum}
@@ -25,11 +26,11 @@ use Rattle.dots_fused_chunk.specs.Terms.{terms}
 use Rattle.dots_fused.specs.Says.{fusedSays}
 
 -- a decoder that refuses nothing was handed whole blocks
-whole-blocks : (f : FormatK) (n room : ℕ) → dequantizeNo (OfK f) n room ≡ 0 → n % bytesK f ≡ 0
-unfolding dequantizeNo
+whole-blocks : (f : FormatK) (n room : ℕ) → dequantizeRefusal (OfK f) n room ≡ done → n % bytesK f ≡ 0
+unfolding dequantizeRefusal
 whole-blocks f n room e =
-    let later = given-none 6 _ _ (lit< tt) e .1 in
-    eqb-true _ _ (not-false _ (given-none 1 _ _ (lit< tt) later .0))
+    let later = given-passed _ _ _ _ e .1 in
+    eqb-true _ _ (not-false _ (given-passed _ _ _ _ later .0))
 
 -- y has the row's weights at its first n places
 abbrev pub Holds : FormatK → List ℕ → ℕ → List Float → Type 0
@@ -42,7 +43,7 @@ module _ (f : FormatK) (x : List Float) (w : List ℕ) (n : ℕ) where
 
   -- Of whole blocks that have n weights the fused dot says what `canonical_dot_pub` says of the row decoded, y ..
   pub dot-decoded : (y : List Float) → Holds f w n y → length w % bytesK f ≡ 0 → n ≤ valuesOf (OfK f) (length w) → fusedSays f x w n ≡ dotSays x y n
-  unfolding fusedSays dotSays
+  unfolding fusedSays dotSays given
   dot-decoded y h whole enough = simp (eq-eqb _ _ whole, le-ltb _ _ enough, le-ltb _ _ (h .0), row-decoded y h)
 
   -- .. as the weights one by one ..
@@ -55,9 +56,9 @@ module _ (f : FormatK) (x : List Float) (w : List ℕ) (n : ℕ) where
   dot-of-output out y e enough =
       let v = valuesOf (OfK f) (length w) in
       let weights = weightAt (OfK f) w in
-      let num = dequantizeNo (OfK f) (length w) (length out) in
-      let no = carried-none num (filled weights out v) out (ap (λ (q : Said × List Float). q .0) e) in
-      let same : y ≡ filled weights out v = ap (λ (q : Said × List Float). q .1) (sym e ∙ carried-done num (filled weights out v) out no) in
+      let checks = dequantizeRefusal (OfK f) (length w) (length out) in
+      let no : checks ≡ done = sym (carried-said checks (filled weights out v) out) ∙ ap (λ (q : Said (Unit {0}) × List Float). q .0) e in
+      let same : y ≡ filled weights out v = ap (λ (q : Said (Unit {0}) × List Float). q .1) (sym e ∙ carried-value checks (filled weights out v) out _ no) in
       let room = room-for-values (OfK f) (length w) (length out) no in
       let holds : Holds f w n (filled weights out v) = (
         rw (length-filled weights out v room) (le-trans enough room),

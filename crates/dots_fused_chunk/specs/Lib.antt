@@ -1,2 +1,3 @@
 -- The terms of the fused dots.
 pub mod Terms
+pub mod Inner

@@ -1,7 +1,7 @@
 // One chunk of a row: its blocks' terms go to eight lanes, which meet in the tree. The loop over blocks is one for both
 // formats, with one look at the format for each block.
-use crate::q4k::add_q4k;
-use crate::q6k::add_q6k;
+use crate::runs::add_runs;
+use crate::sub_blocks::add_sub_blocks;
 use layouts::Format;
 use layouts::FormatK;
 ghost use mathlib.Core.Path.{_≡_};
@@ -20,8 +20,14 @@ fn add_block(format: FormatK, l: [f32; 8], x: &[f32], block: &[u8]) -> [f32; 8]
     ensures { λ r. ⌜ r ≡ lanesFrom l (terms format (now (x .entry)) (now (block .entry))) 256 ⌝ }
 {
     match format {
-        FormatK::Q4K => add_q4k(l, x, block),
-        FormatK::Q6K => add_q6k(l, x, block),
+        FormatK::Q4K => {
+            let q = k_layouts::quants_q4k(block);
+            add_sub_blocks(l, x, block, &q)
+        }
+        FormatK::Q6K => {
+            let q = k_layouts::quants_q6k(block);
+            add_runs(l, x, block, &q)
+        }
     }
 }
 

@@ -13,19 +13,20 @@ use lib.Ieee.{Float, nan, binary32, ofBits, le, add, mul}
 use mir.Syntax.{w32}
 use mir.Val.{SFits}
 use Rattle.memory.proofs.Filled.{getD-table}
+use Rattle.memory.proofs.Every.{every-all}
 use Rattle.numbers.specs.Fields.{signed}
 use Rattle.numbers.specs.Steps.{nought, truncated}
-use Rattle.readings.specs.Readings.{inverse, held, quantQ8}
+use Rattle.readings.specs.Readings.{scaleQ8, inverse, held, quantQ8}
 use Rattle.layouts.specs.Of32.{nibble}
 use Rattle.layouts.specs.K.{scaleByte, scaleQ4K, quantQ4K, scaleQ6K, quantQ6K, scaleK, quantK}
 use Rattle.layouts.specs.declared.format.FormatK.{FormatK}
 use Rattle.layouts.specs.declared.format.FormatK.the-variants.{Q4K, Q6K}
 use Rattle.dots_activation.specs.Whole.{elem, eqZ, Within}
 use Rattle.dots_integer.specs.Dots.{weighedAt, wholeSum}
-use Rattle.dots_activation.specs.Blocks.{scaleQ8, quantAt, quantsOf, sumOf32, rightAt, blockOf, sumsRight, SmallSums}
+use Rattle.dots_activation.specs.Blocks.{quantAt, quantsOf, sumOf32, rightAt, blockOf, sumsRight, SmallSums}
 use Rattle.dots_activation.proofs.Magnitudes.{within, pos-within, mul-within, fits-within}
 use Rattle.dots_activation.proofs.Ranges.{sum-within}
-use Rattle.dots_activation.proofs.Tests.{eqZ-same, every-all}
+use Rattle.dots_activation.proofs.Tests.{eqZ-same}
 
 -- ---- a block of our quantizer
 
@@ -62,7 +63,7 @@ module _ (xs : List Float) where
   sum-at j h = getD-table (sumOf32 (quantsOf xs)) 8 j (pos 0) h
 
   -- its sums are small, ..
-  pub small-sums : SmallSums (blockOf xs)
+  pub small-sums : SmallSums (blockOf xs .bsums)
   small-sums = record {
     near = λ j h. subst (Within 4096) (sym (sum-at j h)) (within (sum-within (λ (l : ℕ). elem (quantsOf xs) (32 * j + l)) 127 32 (λ l p. quants-within (32 * j + l) (omega arith))) (lit≤ tt));
   }
@@ -142,7 +143,7 @@ module _ (w : List ℕ) (bytes : (i : ℕ) → getD w i 0 < 256) where
   -- activation quants within X: the sum over at most 256 places
   pub sum-within-k : (f : FormatK) (X : ℕ) (x : List ℤ) (n : ℕ) → n ≤ 256 → ((i : ℕ) → i < n → Within X (elem x i)) → Within (256 * (mostScale f * (mostQuant f * X))) (wholeSum f w x n)
   sum-within-k f X x n h q =
-      within (sum-within (weighedAt f w x) (mostScale f * (mostQuant f * X)) n (λ i p. mul-within (scale-within f i) (mul-within (quant-within-k f i) (q i p)))) (mul-le-mul-right (mostScale f * (mostQuant f * X)) h)
+      within (sum-within (weighedAt (scaleK f w) (quantK f w) x) (mostScale f * (mostQuant f * X)) n (λ i p. mul-within (scale-within f i) (mul-within (quant-within-k f i) (q i p)))) (mul-le-mul-right (mostScale f * (mostQuant f * X)) h)
 
   -- From our quantizer A stays within 30,723,840 ..
   pub a-within : (xs : List Float) (n : ℕ) → n ≤ 256 → Within 30723840 (wholeSum Q4K w (quantsOf xs) n)

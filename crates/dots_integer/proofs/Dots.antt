@@ -7,13 +7,10 @@ use lib.Dec.{ltb}
 use lib.IntN.{ℤ, pos}
 use lib.Ieee.{Float, binary32, mul, sub, ofInt}
 use Rattle.memory.specs.Lists.{table}
-use Rattle.layouts.specs.K.{dOf, dminOf}
+use Rattle.layouts.specs.K.{scaleK, quantK}
 use Rattle.layouts.specs.declared.format.FormatK.{FormatK}
-use Rattle.layouts.specs.declared.format.FormatK.the-variants.{Q4K, Q6K}
-use Rattle.dots_activation.specs.declared.block.Q8Block.{Q8Block}
 use Rattle.dots_activation.specs.Whole.{elem}
-use Rattle.dots_activation.specs.Blocks.{heldBlock}
-use Rattle.dots_integer.specs.Dots.{scaledSum, minimumSum, blockDot}
+use Rattle.dots_integer.specs.Dots.{scaledSum, scaledDot, blockDot}
 use Rattle.dots_integer.proofs.Runs.{cut-sum}
 
 -- h is the scale d, and a the float of s, which is the sum z
@@ -24,8 +21,7 @@ pub less-is : {a b x y : Float} → a ≡ x → b ≡ y → sub binary32 a b ≡
 less-is {a} {b} {x} {y} p q = ap (λ (v : Float). sub binary32 v b) p ∙ ap (sub binary32 x) q
 
 -- over all places of the quants below n, and 0 from there on: the dot over the places below n
-pub cut-dot : (f : FormatK) (w : List ℕ) (b : Q8Block) (below : List ℤ) (n : ℕ) → n ≤ 256 → below ≡ table (λ i. cond (ltb i n) (elem (b .qs) i) (pos 0)) 256
-    → blockDot f w (heldBlock (b .d) below (b .bsums)) 256 ≡ blockDot f w b n
+pub cut-dot : (f : FormatK) (w : List ℕ) (dx : Float) (qs below sums : List ℤ) (n : ℕ) → n ≤ 256 → below ≡ table (λ i. cond (ltb i n) (elem qs i) (pos 0)) 256
+    → blockDot f w dx below sums 256 ≡ blockDot f w dx qs sums n
 unfolding blockDot
-cut-dot Q4K w b below n h e = ap (λ (z : ℤ). sub binary32 (scaledSum (dOf Q4K w) (b .d) z) (scaledSum (dminOf w) (b .d) (minimumSum w (b .bsums)))) (cut-sum Q4K w (b .qs) below n h e)
-cut-dot Q6K w b below n h e = ap (scaledSum (dOf Q6K w) (b .d)) (cut-sum Q6K w (b .qs) below n h e)
+cut-dot f w dx qs below sums n h e = ap (scaledDot f w dx sums) (cut-sum (scaleK f w) (quantK f w) qs below n h e)

@@ -1,17 +1,19 @@
 // The whole-number sums of a block dot: scale times quant times activation quant over the places below n, and the
-// minimums times the sums. Both formats go run by run: a run has one scale, so its quants' products are summed first.
-// i32 holds every sum, whatever the bytes are: a run is at most 32 x 255 x 128 = 1,044,480 in size, and 16 runs, each
-// times a signed byte, stay below 2^31.
+// minimums times the sums. A sub-block of 32 or a run of 16 has one scale, so its quants' products are summed first.
+// i32 holds every sum, whatever the bytes are: a sub-block is at most 32 x 255 x 128 = 1,044,480 in size, and 16 of
+// that size, each times a signed byte, stay below 2^31.
 use layouts::FormatK;
 ghost use mathlib.Core.Path.{_≡_};
-ghost use Prim.Native.Nat.{ℕ, _+_, _*_, _≤_, _<_};
+ghost use Prim.Native.Nat.{_+_, _*_, _≤_, _<_};
 ghost use mathlib.Core.Bool.{cond};
 ghost use lib.Dec.{ltb};
 ghost use lib.IntN.{ℤ, pos, _+ℤ_, _*ℤ_};
 ghost use lib.ListN.{length, getD};
 ghost use Rattle.memory.specs.Lists.{table};
 ghost use Rattle.dots_activation.specs.Whole.{elem, sumℤ, Within};
+ghost use Rattle.dots_activation.specs.Blocks.{SmallSums};
 ghost use Rattle.dots_integer.specs.Dots.{wholeSum, minimumSum};
+ghost use Rattle.dots_integer.specs.Inner.{subBlocksSum};
 
 // A byte times a quant and another byte times another quant.
 fn two_products(a: u8, x: i8, b: u8, y: i8) -> i32
@@ -27,7 +29,7 @@ fn product(a: i8, x: i8) -> i32
     a as i32 * x as i32
 }
 
-// A scale or a minimum times the sum of its run.
+// A scale or a minimum times the sum that it weighs.
 fn weighed(a: i8, s: i32) -> i32
     requires { ⌜ Within 1044480 s ⌝ }
     ensures { λ r. ⌜ (r ≡ a *ℤ s) × Within 133693440 r ⌝ }
@@ -35,8 +37,8 @@ fn weighed(a: i8, s: i32) -> i32
     a as i32 * s
 }
 
-// The products of run j of 32, those of its two halves side by side: one reduction serves both.
-fn run_of_32(q: &[u8; 256], x: &[i8], j: usize) -> i32
+// The products of sub-block j, those of its two halves side by side: one reduction serves both.
+fn sub_block(q: &[u8; 256], x: &[i8], j: usize) -> i32
     requires { ⌜ (length (now x) ≡ 256) × (j < 8) ⌝ }
     ensures { λ r. ⌜ (r ≡ sumℤ (λ l. pos (getD (now (q .entry)) (32 * j + l) 0) *ℤ elem (now (x .entry)) (32 * j + l))
         32) × Within 1044480 r ⌝ }
@@ -50,8 +52,8 @@ fn run_of_32(q: &[u8; 256], x: &[i8], j: usize) -> i32
     s
 }
 
-// The products of run e of 16.
-fn run_of_16(q: &[i8; 256], x: &[i8], e: usize) -> i32
+// The products of run e.
+fn run(q: &[i8; 256], x: &[i8], e: usize) -> i32
     requires { ⌜ (length (now x) ≡ 256) × (e < 16) ⌝ }
     ensures { λ r. ⌜ (r ≡ sumℤ (λ l. elem (now (q .entry)) (16 * e + l) *ℤ elem (now (x .entry)) (16 * e + l)) 16)
         × Within 1044480 r ⌝ }
@@ -64,28 +66,27 @@ fn run_of_16(q: &[i8; 256], x: &[i8], e: usize) -> i32
     s
 }
 
-// Q4_K's whole-number sum over all places: a scale for each run of 32.
-pub(crate) fn whole_q4k(w: &[u8], x: &[i8]) -> i32
+// The whole-number sum over all places of a block whose quants are q: a scale for each sub-block.
+pub(crate) fn sum_by_sub_blocks(w: &[u8], q: &[u8; 256], x: &[i8]) -> i32
     requires { ⌜ (length (now w) ≡ 144) × (length (now x) ≡ 256) ⌝ }
-    ensures { λ r. ⌜ r ≡ wholeSum FormatK.Q4K (now (w .entry)) (now (x .entry)) 256 ⌝ }
+    ensures { λ r. ⌜ r ≡ subBlocksSum (now (w .entry)) (now (q .entry)) (now (x .entry)) ⌝ }
 {
-    let q = k_layouts::quants_q4k(w);
     let mut a: i32 = 0;
     for j in 0..8usize {
-        a += weighed(k_layouts::scale_q4k(w, j) as i8, run_of_32(&q, x, j));
+        a += weighed(k_layouts::scale_q4k(w, j) as i8, sub_block(q, x, j));
     }
     a
 }
 
-// Q6_K's: a scale for each run of 16.
-pub(crate) fn whole_q6k(w: &[u8], x: &[i8]) -> i32
+// Q6_K's: a scale for each run.
+pub(crate) fn sum_by_runs(w: &[u8], x: &[i8]) -> i32
     requires { ⌜ (length (now w) ≡ 210) × (length (now x) ≡ 256) ⌝ }
     ensures { λ r. ⌜ r ≡ wholeSum FormatK.Q6K (now (w .entry)) (now (x .entry)) 256 ⌝ }
 {
     let q = k_layouts::quants_q6k(w);
     let mut a: i32 = 0;
     for e in 0..16usize {
-        a += weighed(numbers::signed_byte(w[192 + e]), run_of_16(&q, x, e));
+        a += weighed(numbers::signed_byte(w[192 + e]), run(&q, x, e));
     }
     a
 }
@@ -102,10 +103,9 @@ pub(crate) fn cut(x: [i8; 256], n: usize) -> [i8; 256]
     r
 }
 
-// Q4_K's minimums times the block's sums, all eight.
+// The minimums times the activation block's sums, all eight.
 pub(crate) fn minimum_sum(w: &[u8], sums: &[i32]) -> i32
-    requires { ⌜ (length (now w) ≡ 144) × (length (now sums) ≡ 8)
-        × ((j : ℕ) → j < 8 → Within 4096 (elem (now sums) j)) ⌝ }
+    requires { ⌜ (length (now w) ≡ 144) × (length (now sums) ≡ 8) × SmallSums (now sums) ⌝ }
     ensures { λ r. ⌜ r ≡ minimumSum (now (w .entry)) (now (sums .entry)) ⌝ }
 {
     let mut m: i32 = 0;

@@ -9,37 +9,37 @@ use lib.Ieee.{Float}
 use Rattle.refusals.specs.Sizes.{mostIn}
 use Rattle.memory.specs.Lists.{table, filled}
 use Rattle.memory.proofs.Filled.{length-table, Filling, filling-start, filling-more}
+use Rattle.memory.proofs.Parts.{lent-part}
 use Rattle.layouts.specs.declared.format.FormatK.{FormatK}
 use Rattle.layouts.specs.Formats.{bytesK}
 use Rattle.sums_tree.specs.Tree.{tree, combined}
 use Rattle.dots_activation.specs.declared.block.Q8Block.{Q8Block}
 use Rattle.dots_activation.specs.Blocks.{blockOf}
-use Rattle.dots_integer.specs.Dots.{blockDot}
-use Rattle.dots_integer_row.specs.Rows.{blocksIn, blockLength, blockAt, rowDot}
+use Rattle.dots_integer.specs.Dots.{dotWith}
+use Rattle.dots_integer_row.specs.Rows.{blocksIn, blockLength, blockAt, integerRow}
 
 module _ (f : FormatK) (x : List Float) (w : List ℕ) (n : ℕ) where
   -- the dot of the part of the weights that is block b and the block q of the part of the readings up to e
-  pub block-is : (b e : ℕ) (q : Q8Block) → e ≡ 256 * b + blockLength n b → q ≡ blockOf (take (e - 256 * b) (drop (256 * b) x))
-      → blockDot f (take (b * bytesK f + bytesK f - b * bytesK f) (drop (b * bytesK f) w)) q (e - 256 * b) ≡ blockAt f x w n b
-  block-is b e q h k =
-      let bytes : b * bytesK f + bytesK f - b * bytesK f ≡ bytesK f = omega arith in
+  pub block-is : (b e size : ℕ) (q : Q8Block) → size ≡ bytesK f → e ≡ 256 * b + blockLength n b → q ≡ blockOf (take (e - 256 * b) (drop (256 * b) x))
+      → dotWith f (take (b * size + size - b * size) (drop (b * size) w)) q (e - 256 * b) ≡ blockAt f x w n b
+  block-is b e size q s h k =
       let readings : e - 256 * b ≡ blockLength n b = omega arith in
-      rw (k, bytes, readings)
+      rw (k, lent-part w b size (bytesK f) s, readings)
 
-  -- after b of them the array, which held old, is parts
-  abbrev pub Parts : List Float → List Float → ℕ → Type 0
-  Parts old parts b = (b ≤ blocksIn n) × Filling (blockAt f x w n) old 512 parts b
+  -- after b of them the array, which held old, is dots
+  abbrev pub Dots : List Float → List Float → ℕ → Type 0
+  Dots old dots b = (b ≤ blocksIn n) × Filling (blockAt f x w n) old 512 dots b
 
-  pub parts-start : (old : List Float) → length old ≡ 512 → Parts old old 0
-  parts-start old e = (omega arith, filling-start (blockAt f x w n) old 512 e)
+  pub dots-start : (old : List Float) → length old ≡ 512 → Dots old old 0
+  dots-start old e = (omega arith, filling-start (blockAt f x w n) old 512 e)
 
-  pub parts-more : (old parts : List Float) (b : ℕ) (v : Float) → length old ≡ 512 → n ≤ mostIn → b < blocksIn n → v ≡ blockAt f x w n b → Parts old parts b → Parts old (set parts b v) (b + 1)
-  parts-more old parts b v e m h q p = (omega arith, filling-more (blockAt f x w n) old 512 parts b v e (p .1) (omega arith) q)
+  pub dots-more : (old dots : List Float) (b : ℕ) (v : Float) → length old ≡ 512 → n ≤ mostIn → b < blocksIn n → v ≡ blockAt f x w n b → Dots old dots b → Dots old (set dots b v) (b + 1)
+  dots-more old dots b v e m h q p = (omega arith, filling-more (blockAt f x w n) old 512 dots b v e (p .1) (omega arith) q)
 
   -- `canonical_combine`, handed the first k places, one for each block, answers the row's dot
-  pub parts-met : (old parts left : List Float) (b k : ℕ) (r : Float) → b ≡ k → k ≡ blocksIn n → (r, left) ≡ combined (take k parts) → Parts old parts b → r ≡ rowDot f x w n
-  unfolding rowDot
-  parts-met old parts left b k r e h g p =
+  pub dots-met : (old dots left : List Float) (b k : ℕ) (r : Float) → b ≡ k → k ≡ blocksIn n → (r, left) ≡ combined (take k dots) → Dots old dots b → r ≡ integerRow f x w n
+  unfolding integerRow
+  dots-met old dots left b k r e h g p =
       ap (λ (q : Float × List Float). q .0) g
       ∙ ap (λ (l : List Float). tree (take k l)) (p .1 .0 ∙ ap (filled (blockAt f x w n) old) e)
       ∙ ap tree (take-at (table (blockAt f x w n) k) (drop k old) k (length-table (blockAt f x w n) k))

@@ -1,7 +1,7 @@
 // The dot of a row of packed blocks and readings, in whole numbers block by block.
 use dots_activation::quantized_block;
-use dots_integer::Q4K_BYTES;
-use dots_integer::block_dot_q4k;
+use dots_integer::block_dot_below;
+use layouts::Format;
 use layouts::FormatK;
 use refusals::Answer;
 ghost use mathlib.Core.Path.{_≡_};
@@ -9,7 +9,8 @@ ghost use Prim.Native.Nat.{_+_, _*_, _≤_, _<_};
 ghost use lib.ListN.{length};
 ghost use Rattle.refusals.specs.Said.{saidBy};
 ghost use Rattle.refusals.specs.Sizes.{mostIn};
-ghost use Rattle.dots_integer_row.specs.Rows.{blocksIn, blockLength, rowDot, integerSays};
+ghost use Rattle.layouts.specs.Formats.{bytesK};
+ghost use Rattle.dots_integer_row.specs.Rows.{blocksIn, blockLength, integerRow, integerSays};
 
 // The blocks of a row at most.
 const MOST_BLOCKS: usize = 512;
@@ -32,43 +33,52 @@ fn block_end(n: usize, b: usize) -> usize
 }
 
 // The dot of the first n places: the dots of the blocks meet in the tree.
-fn row_dot(x: &[f32], w: &[u8], n: usize) -> f32
-    requires { ⌜ (n ≤ mostIn) × (n ≤ length (now x)) × (blocksIn n * 144 ≤ length (now w)) ⌝ }
-    ensures { λ r. ⌜ r ≡ rowDot FormatK.Q4K (now (x .entry)) (now (w .entry)) n ⌝ }
+fn integer_row(format: FormatK, x: &[f32], w: &[u8], n: usize) -> f32
+    requires { ⌜ (n ≤ mostIn) × (n ≤ length (now x)) × (blocksIn n * bytesK format ≤ length (now w)) ⌝ }
+    ensures { λ r. ⌜ r ≡ integerRow format (now (x .entry)) (now (w .entry)) n ⌝ }
 {
+    let size = layouts::block_bytes(Format::OfK(format));
     let blocks = blocks_in(n);
-    let mut parts = [0.0f32; MOST_BLOCKS];
+    let mut dots = [0.0f32; MOST_BLOCKS];
     let mut b: usize = 0;
     while b < blocks {
         let s = 256 * b;
         let e = block_end(n, b);
-        let from = b * Q4K_BYTES;
-        let to = from + Q4K_BYTES;
-        parts[b] = block_dot_q4k(&w[from..to], quantized_block(&x[s..e]), e - s);
+        let from = b * size;
+        let to = from + size;
+        dots[b] = block_dot_below(format, &w[from..to], quantized_block(&x[s..e]), e - s);
         b += 1;
     }
-    sums_tree::canonical_combine(&mut parts[..blocks])
+    sums_tree::canonical_combine(&mut dots[..blocks])
 }
 
 // The dot of the first n readings, quantised block by block, and the packed weights. Refuses 6 and 1, answers n = 0
 // with +0.0, refuses 3 and 4, in this order.
-pub fn integer_dot_q4k(x: &[f32], w: &[u8], n: usize) -> Answer
-    ensures { λ r. ⌜ saidBy r ≡ integerSays (now (x .entry)) (now (w .entry)) n ⌝ }
+fn integer_dot(format: FormatK, x: &[f32], w: &[u8], n: usize) -> Answer
+    ensures { λ r. ⌜ saidBy r ≡ integerSays format (now (x .entry)) (now (w .entry)) n ⌝ }
 {
+    let size = layouts::block_bytes(Format::OfK(format));
     if n > refusals::MOST_IN {
         return Answer::Refused(refusals::TOO_LARGE);
     }
-    if w.len() % Q4K_BYTES != 0 {
+    if w.len() % size != 0 {
         return Answer::Refused(refusals::NOT_WHOLE_BLOCKS);
     }
     if n == 0 {
         return Answer::Value(0.0);
     }
-    if w.len() < blocks_in(n) * Q4K_BYTES {
+    if w.len() < blocks_in(n) * size {
         return Answer::Refused(refusals::WEIGHTS_SHORT);
     }
     if x.len() < n {
         return Answer::Refused(refusals::READINGS_SHORT);
     }
-    Answer::Value(row_dot(x, w, n))
+    Answer::Value(integer_row(format, x, w, n))
+}
+
+// The dot of a row of Q4_K.
+pub fn integer_dot_q4k(x: &[f32], w: &[u8], n: usize) -> Answer
+    ensures { λ r. ⌜ saidBy r ≡ integerSays FormatK.Q4K (now (x .entry)) (now (w .entry)) n ⌝ }
+{
+    integer_dot(FormatK::Q4K, x, w, n)
 }

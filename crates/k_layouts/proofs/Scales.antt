@@ -1,12 +1,11 @@
--- Q4_K's scales and minimums by the bytes of a block, and Q6_K's scale of a run of 16. Assumes nothing.
+-- Q4_K's scales and minimums by the bytes of a block. Assumes nothing.
 use mathlib.Core.Path.{_≡_}
 use Prim.Native.Nat.{ℕ, _+_, _-_, _*_, _/_, _%_, _≤_, _<_}
 use native.Mathlib.Omega.{arith}
 use mathlib.Core.List.{List}
 use borrow.Author.Tests.{lt-ltb, le-ltb}
 use lib.ListN.{getD}
-use Rattle.numbers.specs.Fields.{signed}
-use Rattle.layouts.specs.K.{scaleQ4K, minimumQ4K, scaleQ6K}
+use Rattle.layouts.specs.K.{scaleQ4K, minimumQ4K}
 
 module _ (bs : List ℕ) (j : ℕ) where
   up : 4 + (j + 4) ≡ 8 + j
@@ -29,13 +28,3 @@ module _ (bs : List ℕ) (j : ℕ) where
   pub minimum-high : 4 ≤ j → getD bs (8 + j) 0 / 16 + 16 * (getD bs (4 + j) 0 / 64) ≡ minimumQ4K bs j
   unfolding minimumQ4K
   minimum-high h = rw (le-ltb j 4 h, up)
-
--- the scale of every place of run e of 16 is scale byte e
-pub scale-run : (bs : List ℕ) (e l : ℕ) → e < 16 → l < 16 → scaleQ6K bs (16 * e + l) ≡ signed (getD bs (192 + e) 0)
-unfolding scaleQ6K
-scale-run bs e l h k =
-    let half : (16 * e + l) / 128 ≡ e / 8 = omega arith in
-    let quarter : (16 * e + l) % 128 / 32 ≡ e % 8 / 2 = omega arith in
-    let place : (16 * e + l) % 32 / 16 ≡ e % 2 = omega arith in
-    let at : 192 + (8 * (e / 8) + (e % 2 + 2 * (e % 8 / 2))) ≡ 192 + e = omega arith in
-    rw (half, quarter, place, at)

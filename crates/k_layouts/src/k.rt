@@ -2,16 +2,16 @@
 use layouts::FormatK;
 use layouts::less;
 ghost use mathlib.Core.Path.{_≡_};
-ghost use Prim.Native.Nat.{_+_, _*_, _<_};
+ghost use Prim.Native.Nat.{_+_, _*_, _≤_, _<_};
 ghost use lib.IntN.{pos, _-ℤ_};
 ghost use lib.ListN.{length};
-ghost use lib.Ieee.{binary32, mul, ofInt};
 ghost use Rattle.memory.specs.Lists.{table};
-ghost use Rattle.layouts.specs.K.{scaleQ4K, minimumQ4K, quantQ4K, quantQ6K, scaleQ6K, dOf, dminOf};
+ghost use Rattle.layouts.specs.K.{scaleQ4K, minimumQ4K, quantQ4K, quantQ6K, dScale, dminMinimum};
 
-// The scale of Q4_K's sub-block j, six bits.
+// The scale of Q4_K's sub-block j, six bits. It and what else is read of the first 16 bytes serves every format with
+// minimums.
 pub fn scale_q4k(block: &[u8], j: usize) -> u8
-    requires { ⌜ (length (now block) ≡ 144) × (j < 8) ⌝ }
+    requires { ⌜ (16 ≤ length (now block)) × (j < 8) ⌝ }
     ensures { λ r. ⌜ (r ≡ scaleQ4K (now (block .entry)) j) × (r < 64) ⌝ }
 {
     if j < 4 {
@@ -23,7 +23,7 @@ pub fn scale_q4k(block: &[u8], j: usize) -> u8
 
 // The minimum of Q4_K's sub-block j, six bits.
 pub fn minimum_q4k(block: &[u8], j: usize) -> u8
-    requires { ⌜ (length (now block) ≡ 144) × (j < 8) ⌝ }
+    requires { ⌜ (16 ≤ length (now block)) × (j < 8) ⌝ }
     ensures { λ r. ⌜ (r ≡ minimumQ4K (now (block .entry)) j) × (r < 64) ⌝ }
 {
     if j < 4 {
@@ -35,10 +35,8 @@ pub fn minimum_q4k(block: &[u8], j: usize) -> u8
 
 // Q4_K's eight products d*scale.
 pub fn scales_q4k(block: &[u8]) -> [f32; 8]
-    requires { ⌜ length (now block) ≡ 144 ⌝ }
-    ensures { λ r. ⌜ r ≡ table
-        (λ j. mul binary32 (dOf FormatK.Q4K (now (block .entry)))
-        (ofInt binary32 (pos (scaleQ4K (now (block .entry)) j)))) 8 ⌝ }
+    requires { ⌜ 16 ≤ length (now block) ⌝ }
+    ensures { λ r. ⌜ r ≡ table (dScale FormatK.Q4K (now (block .entry))) 8 ⌝ }
 {
     let d = halves::f16_to_f32(numbers::le_u16(block[0], block[1]));
     let mut s = [0.0f32; 8];
@@ -50,10 +48,8 @@ pub fn scales_q4k(block: &[u8]) -> [f32; 8]
 
 // Q4_K's eight products dmin*minimum.
 pub fn minimums_q4k(block: &[u8]) -> [f32; 8]
-    requires { ⌜ length (now block) ≡ 144 ⌝ }
-    ensures { λ r. ⌜ r ≡ table
-        (λ j. mul binary32 (dminOf (now (block .entry))) (ofInt binary32 (pos (minimumQ4K (now (block .entry)) j))))
-        8 ⌝ }
+    requires { ⌜ 16 ≤ length (now block) ⌝ }
+    ensures { λ r. ⌜ r ≡ table (dminMinimum (now (block .entry))) 8 ⌝ }
 {
     let dmin = halves::f16_to_f32(numbers::le_u16(block[2], block[3]));
     let mut m = [0.0f32; 8];
@@ -122,9 +118,7 @@ pub fn quants_q6k(block: &[u8]) -> [i8; 256]
 // Q6_K's sixteen products d*scale, one for each run of 16.
 pub fn scales_q6k(block: &[u8]) -> [f32; 16]
     requires { ⌜ length (now block) ≡ 210 ⌝ }
-    ensures { λ r. ⌜ r ≡ table
-        (λ e. mul binary32 (dOf FormatK.Q6K (now (block .entry)))
-        (ofInt binary32 (scaleQ6K (now (block .entry)) (16 * e)))) 16 ⌝ }
+    ensures { λ r. ⌜ r ≡ table (dScale FormatK.Q6K (now (block .entry))) 16 ⌝ }
 {
     let d = halves::f16_to_f32(numbers::le_u16(block[208], block[209]));
     let mut s = [0.0f32; 16];

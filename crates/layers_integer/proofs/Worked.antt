@@ -16,9 +16,9 @@ use Rattle.sums_tree.specs.Tree.{tree, met, pairUp}
 use Rattle.dots_activation.specs.Whole.{sumℤ}
 use Rattle.dots_activation.specs.Blocks.{blockOf}
 use Rattle.dots_integer.specs.Dots.{blockDot}
-use Rattle.layers_shape.specs.Shapes.{shape, oversize, layerNo, outputs}
-use Rattle.held_rows.specs.declared.meeting.Meeting.the-variants.{Tree, Running}
-use Rattle.held_rows.specs.Meets.{running, meets}
+use Rattle.layers_shape.specs.Shapes.{shape, oversize, layerRefusal, outputs}
+use Rattle.dots_kept_row.specs.declared.meeting.Meeting.the-variants.{Tree, Running}
+use Rattle.dots_kept_row.specs.Meets.{running, meets}
 use Rattle.layers_integer.specs.Says.{integerLayerSays}
 
 -- d = -1, dmin = 1, the rest 0
@@ -29,9 +29,9 @@ pub readings : List Float
 readings = replicate 256 nought
 
 pub by-the-tree : integerLayerSays Q4K Tree (shape 1 256 1) readings weights (nought ∷ []) ≡ (done, ofBits binary32 0x80000000 ∷ [])
-unfolding integerLayerSays carriedOut layerNo given oversize outputs meets tree met pairUp weights readings blockDot blockOf table sumℤ scaleQ4K minimumQ4K quantQ4K widened largest quantQ8 ofBits ofInt toSigned sub mul div le
+unfolding integerLayerSays carriedOut layerRefusal given oversize outputs meets tree met pairUp weights readings blockDot blockOf table sumℤ scaleQ4K minimumQ4K quantQ4K widened largest quantQ8 ofBits ofInt toSigned sub mul div le
 by-the-tree = refl
 
 pub by-the-running-sum : integerLayerSays Q4K Running (shape 1 256 1) readings weights (nought ∷ []) ≡ (done, ofBits binary32 0x00000000 ∷ [])
-unfolding integerLayerSays carriedOut layerNo given oversize outputs meets running weights readings blockDot blockOf table sumℤ scaleQ4K minimumQ4K quantQ4K widened largest quantQ8 ofBits ofInt toSigned sub mul div le
+unfolding integerLayerSays carriedOut layerRefusal given oversize outputs meets running weights readings blockDot blockOf table sumℤ scaleQ4K minimumQ4K quantQ4K widened largest quantQ8 ofBits ofInt toSigned sub mul div le
 by-the-running-sum = refl

@@ -1,9 +1,11 @@
 // The calls. Each refuses 6, 2, 3, 4 and 5, in this order.
-use held_rows::Meeting;
+use dots_kept_row::Meeting;
 use layers_integer_row::rows_of_16;
 use layers_integer_row::rows_of_512;
 use layers_shape::Shape;
+use layers_shape::layer_refusal;
 use layouts::FormatK;
+use refusals::Check;
 use refusals::Outcome;
 ghost use mathlib.Core.Path.{_≡_};
 ghost use Rattle.refusals.specs.Said.{outcomeSays};
@@ -21,9 +23,8 @@ fn integer_layer(
     ensures { λ r. ⌜ (outcomeSays r, now (y .exit))
         ≡ integerLayerSays format meeting s (now (x .entry)) (now (w .entry)) (now (y .entry)) ⌝ }
 {
-    let no = layers_shape::layer_no(format, s, x.len(), w.len(), y.len());
-    if no != 0 {
-        return Outcome::Refused(no);
+    if let Check::Refused(refusal) = layer_refusal(format, s, x.len(), w.len(), y.len()) {
+        return Outcome::Refused(refusal);
     }
     if s.in_feat > 4096 {
         rows_of_512(format, meeting, x, w, y, s);

@@ -1,2 +1,2 @@
--- The outputs of a row that is held.
+-- The outputs of a row that is kept.
 pub mod Outputs

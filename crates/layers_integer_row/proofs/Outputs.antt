@@ -1,5 +1,5 @@
--- The outputs of a row that is held are those of its readings. Assumes nothing.
-use mathlib.Core.Path.{_≡_, sym, ap, _∙_}
+-- The outputs of a row that is kept are those of its readings. Assumes nothing.
+use mathlib.Core.Path.{_≡_, sym, ap}
 use mathlib.Core.List.{List}
 use Prim.Native.Nat.{ℕ, _*_, _/_, _<_}
 use native.Mathlib.Omega.{arith}
@@ -9,26 +9,26 @@ use Rattle.memory.specs.Lists.{part}
 use Rattle.layouts.specs.Weights.{block}
 use Rattle.layouts.specs.declared.format.Format.the-variants.{OfK}
 use Rattle.layouts.specs.declared.format.FormatK.{FormatK}
-use Rattle.dots_activation.specs.declared.block.Q8Block.{Q8Block}
 use Rattle.dots_activation.specs.Blocks.{blockOf}
-use Rattle.dots_integer.specs.Dots.{blockDot}
+use Rattle.dots_integer.specs.Dots.{dotWith}
 use Rattle.dots_integer_row.specs.Rows.{blockLength, blockAt}
 use Rattle.layers_shape.specs.Shapes.{weightRow}
-use Rattle.held_rows.specs.declared.meeting.Meeting.{Meeting}
-use Rattle.held_rows.specs.Held.{heldDot, heldRowDot, Holds}
-use Rattle.held_rows.proofs.Meets.{meets-ext}
+use Rattle.dots_kept_row.specs.declared.meeting.Meeting.{Meeting}
+use Rattle.dots_kept_row.specs.Inner.{keptDot, Keeps}
+use Rattle.dots_kept_row.proofs.Meets.{meets-ext}
+use Rattle.layers_integer_row.specs.Inner.{keptRowDot}
 use Rattle.layers_integer_row.specs.Outputs.{integerDotAt}
 
 -- a whole block has 256 places
 whole-block : (n t : ℕ) → t < n / 256 → blockLength n t ≡ 256
 whole-block n t h = omega arith
 
-module _ (f : FormatK) (x : List Float) (n : ℕ) (ds : List Float) (qs sums : List ℤ) (h : Holds x (n / 256) ds qs sums) where
+module _ (f : FormatK) (x : List Float) (n : ℕ) (ds : List Float) (qs sums : List ℤ) (h : Keeps x (n / 256) ds qs sums) where
   -- the dot of block t is that of the readings
-  dot-same : (w : List ℕ) (t : ℕ) → t < n / 256 → heldDot f w ds qs sums t ≡ blockAt f x w n t
+  dot-same : (w : List ℕ) (t : ℕ) → t < n / 256 → keptDot f w ds qs sums t ≡ blockAt f x w n t
   dot-same w t l =
-      ap (λ (b : Q8Block). blockDot f (block (OfK f) w t) b 256) (h .at t l)
-      ∙ ap (λ (k : ℕ). blockDot f (block (OfK f) w t) (blockOf (part x (256 * t) k)) k) (sym (whole-block n t l))
+      let k = h .at t l in
+      rw (k .scale, k .quants, k .eight) (ap (λ (k : ℕ). dotWith f (block (OfK f) w t) (blockOf (part x (256 * t) k)) k) (sym (whole-block n t l)))
 
-  pub row-same : (m : Meeting) (w : List ℕ) (o : ℕ) → heldRowDot f m w ds qs sums (n / 256) o ≡ integerDotAt f m x w n o
-  row-same m w o = meets-ext m (heldDot f (weightRow f w n o) ds qs sums) (blockAt f x (weightRow f w n o) n) (n / 256) (dot-same (weightRow f w n o))
+  pub row-same : (m : Meeting) (w : List ℕ) (o : ℕ) → keptRowDot f m w ds qs sums (n / 256) o ≡ integerDotAt f m x w n o
+  row-same m w o = meets-ext m (keptDot f (weightRow f w n o) ds qs sums) (blockAt f x (weightRow f w n o) n) (n / 256) (dot-same (weightRow f w n o))

@@ -1,2 +1,3 @@
 -- What the integer layers put into their output.
 pub mod Outputs
+pub mod Inner

@@ -6,8 +6,8 @@ use Rattle.layouts.specs.declared.format.FormatK.{FormatK}
 use Rattle.dots_integer_row.specs.Rows.{blockAt}
 use Rattle.layers_shape.specs.declared.Shape.{Shape}
 use Rattle.layers_shape.specs.Shapes.{readingRow, weightRow, outputs}
-use Rattle.held_rows.specs.declared.meeting.Meeting.{Meeting}
-use Rattle.held_rows.specs.Meets.{meets}
+use Rattle.dots_kept_row.specs.declared.meeting.Meeting.{Meeting}
+use Rattle.dots_kept_row.specs.Meets.{meets}
 
 -- the integer dot of a row of n readings, quantised block by block, and row o of the weights
 abbrev pub integerDotAt : FormatK → Meeting → List Float → List ℕ → ℕ → ℕ → Float

@@ -7,7 +7,7 @@ use lib.Arith.{digits-div}
 use lib.IntN.{pos, _-ℤ_}
 use lib.ListN.{getD}
 use Rattle.numbers.specs.Fields.{le32}
-use Rattle.layouts.specs.Of32.{nibble, quant32}
+use Rattle.layouts.specs.Of32.{nibble, nibbleApart, quant32}
 use Rattle.layouts.specs.K.{quantQ4K, quantQ6K}
 use Rattle.layouts.specs.declared.format.Format32.the-variants.{Q40, Q50}
 
@@ -27,21 +27,25 @@ q40-high bs k =
     let b : (2 * k + 1) % 2 ≡ 1 = omega arith in
     rw (a, b)
 
--- ---- Q5_0: byte k has the places k and k + 16
+-- ---- nibbles 16 apart: byte k has the places k and k + 16
 
-pub q50-low : (bs : List ℕ) (k : ℕ) → k < 16 → quant32 Q50 bs k ≡ pos (getD bs (6 + k) 0 % 16 + 16 * (le32 bs 2 / 2 ^ k % 2)) -ℤ pos 16
-unfolding quant32
-q50-low bs k h =
-    let a : k % 16 ≡ k = omega arith in
-    let b : k / 16 ≡ 0 = omega arith in
-    rw (a, b)
+module _ (bs : List ℕ) (at k : ℕ) (h : k < 16) where
+  pub apart-low : nibbleApart bs at k ≡ getD bs (at + k) 0 % 16
+  apart-low =
+      let a : k % 16 ≡ k = omega arith in
+      let b : k / 16 ≡ 0 = omega arith in
+      rw (a, b)
 
-pub q50-high : (bs : List ℕ) (k : ℕ) → k < 16 → quant32 Q50 bs (k + 16) ≡ pos (getD bs (6 + k) 0 / 16 + 16 * (le32 bs 2 / 2 ^ (k + 16) % 2)) -ℤ pos 16
+  pub apart-high : nibbleApart bs at (k + 16) ≡ getD bs (at + k) 0 / 16
+  apart-high =
+      let a : (k + 16) % 16 ≡ k = omega arith in
+      let b : (k + 16) / 16 ≡ 1 = omega arith in
+      rw (a, b)
+
+-- Q5_0: the nibble at place i, which is n, with its high bit above it
+pub q50-at : (bs : List ℕ) (i n : ℕ) → nibbleApart bs 6 i ≡ n → quant32 Q50 bs i ≡ pos (n + 16 * (le32 bs 2 / 2 ^ i % 2)) -ℤ pos 16
 unfolding quant32
-q50-high bs k h =
-    let a : (k + 16) % 16 ≡ k = omega arith in
-    let b : (k + 16) / 16 ≡ 1 = omega arith in
-    rw (a, b)
+q50-at bs i n e = rw e
 
 -- ---- Q4_K: place p = 32 j + l of sub-block j, whose byte is a
 

@@ -1,6 +1,6 @@
--- The formats' block sizes, and the bytes that name a layer's format. Definitions only.
+-- The formats' properties, and the bytes that name a layer's format. Definitions only.
 use Prim.Native.Nat.{ℕ}
-use mathlib.Core.Bool.{cond}
+use mathlib.Core.Bool.{Bool, true, false, cond}
 use lib.Dec.{eqb}
 use Rattle.layouts.specs.declared.format.Format32.{Format32}
 use Rattle.layouts.specs.declared.format.Format32.the-variants.{Q40, Q50, Q80}
@@ -21,6 +21,15 @@ bytes32 Q80 = 34
 abbrev pub bytesK : FormatK → ℕ
 bytesK Q4K = 144
 bytesK Q6K = 210
+
+-- whether a K format has minimums
+abbrev pub hasMinimums : FormatK → Bool
+hasMinimums Q4K = true
+hasMinimums Q6K = false
+
+-- how many places of a K format have one scale: the 32 of a sub-block, which has a minimum too, or the 16 of a run
+abbrev pub runLength : FormatK → ℕ
+runLength f = cond (hasMinimums f) 32 16
 
 -- how many bytes a block has
 abbrev pub blockBytes : Format → ℕ

@@ -9,10 +9,12 @@ use lib.Ieee.{Float, binary32, mul, sub, ofInt}
 use Rattle.halves.specs.Binary16.{widened}
 use Rattle.numbers.specs.Fields.{le16, signed}
 use Rattle.layouts.specs.Of32.{nibble}
+use Rattle.layouts.specs.Formats.{hasMinimums, runLength}
 use Rattle.layouts.specs.declared.format.FormatK.{FormatK}
 use Rattle.layouts.specs.declared.format.FormatK.the-variants.{Q4K, Q6K}
 
--- ---- Q4_K: 144 bytes: d, dmin, 12 scale bytes, 128 nibble bytes
+-- ---- Q4_K: 144 bytes: d, dmin, 12 scale bytes, 128 nibble bytes. Its first 16 bytes are those of every format with
+-- minimums
 
 -- scale byte j of the 12
 abbrev pub scaleByte : List ℕ → ℕ → ℕ
@@ -46,38 +48,50 @@ sixBits bs h t l = pos
 unfoldable pub quantQ6K : List ℕ → ℕ → ℤ
 quantQ6K bs i = sixBits bs (i / 128) (i % 128 / 32) (i % 32)
 
--- Scales l/16, plus 0, 2, 4, 6: the scale at place i.
+-- Scales l/16, plus 0, 2, 4, 6: each 16 places take the next. Scale e of the sixteen.
 unfoldable pub scaleQ6K : List ℕ → ℕ → ℤ
-scaleQ6K bs i = signed (getD bs (192 + (8 * (i / 128) + (i % 32 / 16 + 2 * (i % 128 / 32)))) 0)
+scaleQ6K bs e = signed (getD bs (192 + e) 0)
 
--- ---- both
+-- ---- every K format, by its whole numbers and by whether it has minimums
 
 -- the whole number at place i
 abbrev pub quantK : FormatK → List ℕ → ℕ → ℤ
 quantK Q4K bs i = pos (quantQ4K bs i)
 quantK Q6K bs i = quantQ6K bs i
 
--- the scale at place i, a whole number
+-- scale e of a block, a whole number
+abbrev pub scaleIn : FormatK → List ℕ → ℕ → ℤ
+scaleIn f bs e = cond (hasMinimums f) (pos (scaleQ4K bs e)) (scaleQ6K bs e)
+
+-- the scale at place i
 abbrev pub scaleK : FormatK → List ℕ → ℕ → ℤ
-scaleK Q4K bs i = pos (scaleQ4K bs (i / 32))
-scaleK Q6K bs i = scaleQ6K bs i
+scaleK f bs i = scaleIn f bs (i / runLength f)
 
 -- d, the block's scale
 abbrev pub dOf : FormatK → List ℕ → Float
-dOf Q4K bs = widened (le16 bs 0)
-dOf Q6K bs = widened (le16 bs 208)
+dOf f bs = widened (le16 bs (cond (hasMinimums f) 0 208))
 
--- dmin, the scale of Q4_K's minimums
+-- dmin, the scale of the minimums
 abbrev pub dminOf : List ℕ → Float
 dminOf bs = widened (le16 bs 2)
 
--- (d*scale)*q at place i
-abbrev pub scaledQuant : FormatK → List ℕ → ℕ → Float
-scaledQuant f bs i = mul binary32 (mul binary32 (dOf f bs) (ofInt binary32 (scaleK f bs i)))
-    (ofInt binary32 (quantK f bs i))
+-- d*scale, of scale e
+abbrev pub dScale : FormatK → List ℕ → ℕ → Float
+dScale f bs e = mul binary32 (dOf f bs) (ofInt binary32 (scaleIn f bs e))
 
--- Value. Q4_K: (d*scale)*q - (dmin*minimum); Q6_K: (d*scale)*q.
+-- dmin*minimum, of minimum j
+abbrev pub dminMinimum : List ℕ → ℕ → Float
+dminMinimum bs j = mul binary32 (dminOf bs) (ofInt binary32 (pos (minimumQ4K bs j)))
+
+-- (d*scale)*q, of a whole number q at place i
+abbrev pub scaledQuant : FormatK → List ℕ → ℕ → ℤ → Float
+scaledQuant f bs i q = mul binary32 (dScale f bs (i / runLength f)) (ofInt binary32 q)
+
+-- Value, of a whole number q at place i. With minimums: (d*scale)*q - (dmin*minimum); without: (d*scale)*q.
+abbrev pub valueOf : FormatK → List ℕ → ℕ → ℤ → Float
+valueOf f bs i q = cond (hasMinimums f) (sub binary32 (scaledQuant f bs i q) (dminMinimum bs (i / runLength f)))
+    (scaledQuant f bs i q)
+
+-- the value at place i
 abbrev pub valueK : FormatK → List ℕ → ℕ → Float
-valueK Q4K bs i = sub binary32 (scaledQuant Q4K bs i)
-    (mul binary32 (dminOf bs) (ofInt binary32 (pos (minimumQ4K bs (i / 32)))))
-valueK Q6K bs i = scaledQuant Q6K bs i
+valueK f bs i = valueOf f bs i (quantK f bs i)

@@ -3,3 +3,4 @@ pub mod Filled
 pub mod Parts
 pub mod Laid
 pub mod Streams
+pub mod Every

@@ -1,25 +1,21 @@
 -- The bytes of a block: the stored scale's two, and then the quants'. Assumes nothing.
 use mathlib.Core.Path.{_≡_, refl, sym, ap, _∙_}
-use Prim.Native.Nat.{ℕ, suc, _+_, _-_, _*_, _/_, _%_, _≤_, _<_}
+use Prim.Native.Nat.{ℕ, suc, _+_, _-_, _*_, _/_, _%_, _<_}
 use native.Mathlib.Nat.{le-of-eq}
 use native.Mathlib.Omega.{arith}
 use mathlib.Core.List.{List, _++_}
 use lib.Arith.{digits-div, digits-mod}
-use lib.Dec.{lit≤}
 use lib.ListN.{length, getD, set, take, drop}
 use lib.Ieee.{Float, nan, binary32, mul}
 use Rattle.memory.specs.Lists.{table}
 use Rattle.memory.proofs.Filled.{Filling, filling-start, filling-more, filled-all, part-turn}
 use Rattle.numbers.specs.Fields.{byteOf}
 use Rattle.readings.specs.Readings.{inverse, quantQ8, quantQ40}
-use Rattle.quantizers.specs.Blocks.{blockSize, scaleOf, storedScale, scaledReading, quantOf, quantByte, byteAt}
+use Rattle.layouts.specs.Formats.{bytes32}
+use Rattle.quantizers.specs.Blocks.{formatOf, scaleOf, storedScale, scaledReading, quantOf, quantByte, byteAt}
 use Rattle.quantizers.specs.Says.{packedAt}
 use Rattle.quantizers.specs.declared.target.Target.{Target}
 use Rattle.quantizers.specs.declared.target.Target.the-variants.{Q40, Q80}
-
-pub block-sizes : (t : Target) → (18 ≤ blockSize t) × (blockSize t ≤ 34)
-block-sizes Q40 = (lit≤ tt, lit≤ tt)
-block-sizes Q80 = (lit≤ tt, lit≤ tt)
 
 after-scale : (t : Target) (xs : List Float) (l : ℕ) → quantByte t xs l ≡ byteAt t xs (2 + l)
 unfolding byteAt
@@ -51,18 +47,18 @@ module _ (t : Target) (xs : List Float) (out : List ℕ) (half size k : ℕ) (L 
       (p .0 ∙ filled-all (byteAt t xs) out size (le-of-eq L), p .1)
 
 -- the same of the target u that the code was told of, by the scale d and the inverse that it computed
-pub block-left : (t u : Target) (xs : List Float) (out ys : List ℕ) (half size k : ℕ) (d inv : Float) → t ≡ u → length out ≡ blockSize t → blockSize u ≡ size → size ≡ 2 + k
+pub block-left : (t u : Target) (xs : List Float) (out ys : List ℕ) (half size k : ℕ) (d inv : Float) → t ≡ u → length out ≡ bytes32 (formatOf t) → bytes32 (formatOf u) ≡ size → size ≡ 2 + k
     → d ≡ scaleOf t xs → inv ≡ inverse d → half ≡ storedScale d → ys ≡ table (written u xs inv) k
     → (let o = set (set out 0 (half % 256)) 1 (half / 256) in
-    (take 2 o ++ (ys ++ drop (size - 2) (drop 2 o)) ≡ table (byteAt t xs) (blockSize t)) × (length (take 2 o ++ (ys ++ drop (size - 2) (drop 2 o))) ≡ length out))
+    (take 2 o ++ (ys ++ drop (size - 2) (drop 2 o)) ≡ table (byteAt t xs) (bytes32 (formatOf t))) × (length (take 2 o ++ (ys ++ drop (size - 2) (drop 2 o))) ≡ length out))
 block-left t u xs out ys half size k d inv e L Z S D I H Y =
     let scale : d ≡ scaleOf u xs = D ∙ ap (λ (v : Target). scaleOf v xs) e in
     let by : (l : ℕ) → written u xs inv l ≡ byteAt u xs (2 + l) = λ l. ap (λ (i : Float). written u xs i l) (I ∙ ap inverse scale) ∙ written-is u xs l in
-    let p = block-filled u xs out half size k (L ∙ ap blockSize e ∙ Z) S (H ∙ ap storedScale scale) (written u xs inv) ys Y by in
-    (p .0 ∙ ap (table (byteAt u xs)) (sym Z) ∙ ap (λ (v : Target). table (byteAt v xs) (blockSize v)) (sym e), p .1)
+    let p = block-filled u xs out half size k (L ∙ ap (λ (v : Target). bytes32 (formatOf v)) e ∙ Z) S (H ∙ ap storedScale scale) (written u xs inv) ys Y by in
+    (p .0 ∙ ap (table (byteAt u xs)) (sym Z) ∙ ap (λ (v : Target). table (byteAt v xs) (bytes32 (formatOf v))) (sym e), p .1)
 
 -- block b's byte at place l is the output's at place b * size + l
-pub placed : (t : Target) (xs : List Float) (b l size : ℕ) → size ≡ blockSize t → l < size
+pub placed : (t : Target) (xs : List Float) (b l size : ℕ) → size ≡ bytes32 (formatOf t) → l < size
     → byteAt t (take (b * 32 + 32 - b * 32) (drop (b * 32) xs)) l ≡ packedAt t xs (b * size + l)
 unfolding packedAt
 placed t xs b l size S h =

@@ -2,14 +2,14 @@
 use mathlib.Core.Path.{_≡_}
 use Prim.Native.Nat.{ℕ, _≤_}
 use borrow.Author.Tests.{ltb-false}
-use lib.Dec.{lit<}
-use Rattle.refusals.proofs.Laws.{given-none}
-use Rattle.quantizers.specs.Says.{bytesFor, quantizeNo}
+use Rattle.refusals.specs.Said.{done}
+use Rattle.refusals.proofs.Laws.{given-passed}
+use Rattle.quantizers.specs.Says.{bytesFor, quantizeRefusal}
 use Rattle.quantizers.specs.declared.target.Target.{Target}
 
-pub room-for-bytes : (t : Target) (n room : ℕ) → quantizeNo t n room ≡ 0 → bytesFor t n ≤ room
-unfolding quantizeNo
+pub room-for-bytes : (t : Target) (n room : ℕ) → quantizeRefusal t n room ≡ done → bytesFor t n ≤ room
+unfolding quantizeRefusal
 room-for-bytes t n room e =
-    let later = given-none 6 _ _ (lit< tt) e .1 in
-    let last = given-none 2 _ _ (lit< tt) later .1 in
-    ltb-false _ _ (given-none 5 _ _ (lit< tt) last .0)
+    let g6 = given-passed _ _ _ _ e in
+    let g2 = given-passed _ _ _ _ (g6 .1) in
+    ltb-false _ _ (given-passed _ _ _ _ (g2 .1) .0)

@@ -6,19 +6,21 @@ use lib.ListN.{getD}
 use lib.Ieee.{Float, nan, binary32, mul, div, ofBits, toBits}
 use Rattle.halves.specs.Binary16.{narrowed}
 use Rattle.numbers.specs.Fields.{byteOf}
-use Rattle.readings.specs.Readings.{largest, largestValue, inverse, quantQ8, quantQ40}
+use Rattle.readings.specs.Readings.{largestValue, scaleQ8, inverse, quantQ8, quantQ40}
+use Rattle.layouts.specs.declared.format.Format32.{Format32}
+use Rattle.layouts.specs.declared.format.Format32.the-variants as format
 use Rattle.quantizers.specs.declared.target.Target.{Target}
 use Rattle.quantizers.specs.declared.target.Target.the-variants.{Q40, Q80}
 
--- how many bytes a block has
-abbrev pub blockSize : Target → ℕ
-blockSize Q40 = 18
-blockSize Q80 = 34
+-- the format of a target's blocks, which has their size
+abbrev pub formatOf : Target → Format32
+formatOf Q40 = format.Q40
+formatOf Q80 = format.Q80
 
--- d. Q4_0: the first value of largest magnitude over -8. Q8: largest/127.
+-- d. Q4_0: the first value of largest magnitude over -8. Q8_0: that of Q8.
 unfoldable pub scaleOf : Target → List Float → Float
 scaleOf Q40 xs = div binary32 (largestValue xs 32) (ofBits binary32 0xc100_0000)
-scaleOf Q80 xs = div binary32 (largest xs 32) (ofBits binary32 0x42fe_0000)
+scaleOf Q80 xs = scaleQ8 xs
 
 -- the stored scale is `f32_to_f16` of d
 unfoldable pub storedScale : Float → ℕ

@@ -6,8 +6,9 @@ ghost use lib.ListN.{length, getD};
 ghost use lib.Ieee.{nan, binary32, mul};
 ghost use Rattle.memory.specs.Lists.{table};
 ghost use Rattle.numbers.specs.Fields.{byteOf};
+ghost use Rattle.layouts.specs.Formats.{bytes32};
 ghost use Rattle.readings.specs.Readings.{quantQ8, quantQ40};
-ghost use Rattle.quantizers.specs.Blocks.{blockSize, scaleOf, storedScale, byteAt};
+ghost use Rattle.quantizers.specs.Blocks.{formatOf, scaleOf, storedScale, byteAt};
 
 // The scale that a block gets: d.
 fn scale_of(target: Target, x: &[f32]) -> f32
@@ -16,7 +17,7 @@ fn scale_of(target: Target, x: &[f32]) -> f32
 {
     match target {
         Target::Q40 => readings::largest_value(x) / -8.0,
-        Target::Q80 => readings::largest_magnitude(x) / 127.0,
+        Target::Q80 => readings::scale_q8(x),
     }
 }
 
@@ -54,8 +55,8 @@ fn write_quants_q8_0(x: &[f32], inverse: f32, out: &mut [u8])
 
 // One block's bytes.
 pub fn quantize_block(target: Target, x: &[f32], out: &mut [u8])
-    requires { ⌜ (length (now x) ≡ 32) × (length (now out) ≡ blockSize target) ⌝ }
-    ensures { λ _. ⌜ now (out .exit) ≡ table (byteAt target (now (x .entry))) (blockSize target) ⌝ }
+    requires { ⌜ (length (now x) ≡ 32) × (length (now out) ≡ bytes32 (formatOf target)) ⌝ }
+    ensures { λ _. ⌜ now (out .exit) ≡ table (byteAt target (now (x .entry))) (bytes32 (formatOf target)) ⌝ }
 {
     let d = scale_of(target, x);
     let inverse = readings::inverse_of(d);

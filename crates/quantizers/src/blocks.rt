@@ -1,14 +1,17 @@
 // The quantizers: every block's bytes, each block's in its own places in the middle of the output.
 use crate::block::quantize_block;
 use crate::target::Target;
-use crate::target::block_size;
+use crate::target::format_of;
+use layouts::Format;
+use layouts::block_bytes;
+use refusals::Check;
 use refusals::Outcome;
 ghost use mathlib.Core.Path.{_≡_};
 ghost use Prim.Native.Nat.{_≤_};
 ghost use lib.ListN.{length};
-ghost use Rattle.refusals.specs.Said.{outcomeSays};
+ghost use Rattle.refusals.specs.Said.{checkSays, outcomeSays};
 ghost use Rattle.memory.specs.Lists.{filled};
-ghost use Rattle.quantizers.specs.Says.{packedAt, bytesFor, quantizeNo, quantizeSays};
+ghost use Rattle.quantizers.specs.Says.{packedAt, bytesFor, quantizeRefusal, quantizeSays};
 
 // The bytes of the whole blocks of 32 readings, at the front of the output.
 fn quantize_blocks(target: Target, x: &[f32], out: &mut [u8])
@@ -16,7 +19,7 @@ fn quantize_blocks(target: Target, x: &[f32], out: &mut [u8])
     ensures { λ _. ⌜ now (out .exit)
         ≡ filled (packedAt target (now (x .entry))) (now (out .entry)) (bytesFor target (length (now (x .entry)))) ⌝ }
 {
-    let size = block_size(target);
+    let size = block_bytes(Format::Of32(format_of(target)));
     let count = x.len() / 32;
     let mut b: usize = 0;
     while b < count {
@@ -29,28 +32,28 @@ fn quantize_blocks(target: Target, x: &[f32], out: &mut [u8])
     }
 }
 
-// Why a quantizer of n readings into `room` places says no; 0 where it does not.
-fn quantize_no(target: Target, n: usize, room: usize) -> u32
-    ensures { λ r. ⌜ r ≡ quantizeNo target n room ⌝ }
+// Why a quantizer of n readings into `room` places refuses.
+fn quantize_refusal(target: Target, n: usize, room: usize) -> Check
+    ensures { λ r. ⌜ checkSays r ≡ quantizeRefusal target n room ⌝ }
 {
     if n > refusals::MOST_FLOATS {
-        return refusals::TOO_LARGE;
+        return Check::Refused(refusals::TOO_LARGE);
     }
     if n % 32 != 0 {
-        return refusals::NOT_A_MULTIPLE;
+        return Check::Refused(refusals::NOT_A_MULTIPLE);
     }
-    if room < n / 32 * block_size(target) {
-        return refusals::ROOM_SHORT;
+    if room < n / 32 * block_bytes(Format::Of32(format_of(target))) {
+        return Check::Refused(refusals::ROOM_SHORT);
     }
-    0
+    Check::Passed
 }
 
 fn quantize(target: Target, x: &[f32], out: &mut [u8]) -> Outcome
     ensures { λ r. ⌜ (outcomeSays r, now (out .exit)) ≡ quantizeSays target (now (x .entry)) (now (out .entry)) ⌝ }
 {
-    let no = quantize_no(target, x.len(), out.len());
-    if no != 0 {
-        return Outcome::Refused(no);
+    let checked = quantize_refusal(target, x.len(), out.len());
+    if let Check::Refused(refusal) = checked {
+        return Outcome::Refused(refusal);
     }
     quantize_blocks(target, x, out);
     Outcome::Done

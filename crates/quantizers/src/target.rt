@@ -1,18 +1,20 @@
-// The formats that readings are quantised to, each 32 values to a block.
+// The formats that readings are quantised to.
+use layouts::Format32;
 ghost use mathlib.Core.Path.{_≡_};
-ghost use Rattle.quantizers.specs.Blocks.{blockSize};
+ghost use Rattle.quantizers.specs.Blocks.{formatOf};
 
+// The formats that have a quantizer: of those with 32 values to a block Q5_0 has none.
 pub enum Target {
     Q40,
     Q80,
 }
 
-// How many bytes a block has.
-pub fn block_size(target: Target) -> usize
-    ensures { λ r. ⌜ r ≡ blockSize target ⌝ }
+// The format of a target's blocks, which has their size.
+pub fn format_of(target: Target) -> Format32
+    ensures { λ r. ⌜ r ≡ formatOf target ⌝ }
 {
     match target {
-        Target::Q40 => 18,
-        Target::Q80 => 34,
+        Target::Q40 => Format32::Q40,
+        Target::Q80 => Format32::Q80,
     }
 }

@@ -4,7 +4,7 @@ use mathlib.Core.Bool.{cond}
 use mathlib.Core.List.{List}
 use lib.IntN.{ℤ, pos, negsuc}
 use lib.Signed.{ltZ}
-use lib.ListN.{getD}
+use lib.ListN.{length, getD}
 use lib.Ieee.{Float, nan, binary32, ofBits, lt, le, eq, add, div}
 use Rattle.numbers.specs.Steps.{nought, magnitude, truncated}
 
@@ -17,6 +17,10 @@ largest xs (suc k) = cond (lt (largest xs k) (magnitude (getD xs k nan))) (magni
 unfoldable pub largestValue : List Float → ℕ → Float
 largestValue xs zero = nought
 largestValue xs (suc k) = cond (lt (largest xs k) (magnitude (getD xs k nan))) (getD xs k nan) (largestValue xs k)
+
+-- Q8: d = largest/127
+abbrev pub scaleQ8 : List Float → Float
+scaleQ8 xs = div binary32 (largest xs (length xs)) (ofBits binary32 0x42fe_0000)
 
 -- if d is 0 the inverse is 0, else 1 / d
 abbrev pub inverse : Float → Float

@@ -6,6 +6,7 @@ mod quants;
 
 pub use magnitudes::largest_magnitude;
 pub use magnitudes::largest_value;
+pub use magnitudes::scale_q8;
 pub use quants::inverse_of;
 pub use quants::round_q4_0;
 pub use quants::round_q8;

@@ -1,11 +1,11 @@
-// The largest magnitude of readings, and the first reading that has it.
+// The largest magnitude of readings, the scale that Q8 makes of it, and the first reading that has it.
 use numbers::magnitude_of;
 ghost use mathlib.Core.Path.{_≡_};
 ghost use mathlib.Core.Bool.{cond, not, _&&_};
 ghost use lib.ListN.{length};
 ghost use lib.Ieee.{lt};
 ghost use Rattle.numbers.specs.Steps.{nought, magnitude};
-ghost use Rattle.readings.specs.Readings.{largest, largestValue};
+ghost use Rattle.readings.specs.Readings.{largest, largestValue, scaleQ8};
 
 // The larger of the two; a where b is a NaN.
 pub(crate) fn larger_of(a: f32, b: f32) -> f32
@@ -40,6 +40,13 @@ pub fn largest_magnitude(x: &[f32]) -> f32
         i += 8;
     }
     larger_of(largest_in_order(&lanes), largest_in_order(&x[whole..]))
+}
+
+// The scale of readings that become Q8 quants: d.
+pub fn scale_q8(x: &[f32]) -> f32
+    ensures { λ r. ⌜ r ≡ scaleQ8 (now (x .entry)) ⌝ }
+{
+    largest_magnitude(x) / 127.0
 }
 
 // Whether the magnitude of v is `most` or more, and above 0: so a NaN's is not.

@@ -10,8 +10,8 @@ use lib.ListN.{length, take, getD, length-append, List·getD-append}
 use lib.Seq.{ext-getD, getD-take, length-take-le}
 use lib.Ieee.{Float, binary32, ofBits, toBits, fits}
 use lib.Ieee.Bits.{ofBits-toBits}
-use Rattle.dots_activation.specs.Whole.{every}
-use Rattle.dots_activation.proofs.Tests.{every-all, every-not}
+use Rattle.memory.specs.Lists.{every}
+use Rattle.memory.proofs.Every.{every-all, every-not}
 use Rattle.replay_answers.specs.Same.{sameBits, sameByteAt, sameBytes}
 
 -- ---- floats

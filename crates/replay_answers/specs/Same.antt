@@ -1,12 +1,13 @@
 -- When a stored answer is ours. Definitions only.
+use Prim.{Unit}
 use Prim.Native.Nat.{ℕ}
 use mathlib.Core.Bool.{Bool, true, false, cond}
 use mathlib.Core.List.{List}
 use lib.Dec.{ltb, eqb}
 use lib.ListN.{length, getD}
 use lib.Ieee.{Float, nan, binary32, toBits}
-use Rattle.refusals.specs.Said.{Said, value, done, refused}
-use Rattle.dots_activation.specs.Whole.{every}
+use Rattle.refusals.specs.Said.{Said, value, refused}
+use Rattle.memory.specs.Lists.{every}
 use Rattle.replay_answers.specs.Payload.{floatAt}
 use Rattle.replay_answers.specs.declared.findings.Finding.{Finding}
 use Rattle.replay_answers.specs.declared.findings.Finding.the-variants.{Same, Differs}
@@ -32,16 +33,14 @@ unfoldable pub sameBytes : List ℕ → List ℕ → Bool
 sameBytes p bs = cond (ltb (length p) (length bs)) false (every (sameByteAt p bs) (length bs))
 
 -- a call that fills lent memory says this number: that it is done is 0
-abbrev pub saysNumber : Said → ℕ → Bool
-saysNumber (value v) number = false
-saysNumber done number = eqb number 0
-saysNumber (refused said) number = eqb said number
+abbrev pub saysNumber : Said (Unit {0}) → ℕ → Bool
+saysNumber (value finished) number = eqb number 0
+saysNumber (refused why) number = eqb (why .number) number
 
 -- a dot or a sum says this number, or where the number is 0 this value
-abbrev pub sameAnswer : Said → ℕ → Float → Bool
+abbrev pub sameAnswer : Said Float → ℕ → Float → Bool
 sameAnswer (value v) number theirs = cond (eqb number 0) (sameBits v theirs) false
-sameAnswer done number theirs = false
-sameAnswer (refused said) number theirs = eqb said number
+sameAnswer (refused why) number theirs = eqb (why .number) number
 
 -- what comes of an answer
 abbrev pub found : Bool → Finding

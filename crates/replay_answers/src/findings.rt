@@ -62,7 +62,7 @@ pub fn says(ours: Outcome, number: u32) -> bool
 {
     match ours {
         Outcome::Done => number == 0,
-        Outcome::Refused(said) => said == number,
+        Outcome::Refused(refusal) => refusal.number == number,
     }
 }
 
@@ -72,6 +72,6 @@ pub fn same_answer(ours: Answer, number: u32, value: f32) -> bool
 {
     match ours {
         Answer::Value(v) => number == 0 && same_bits(v, value),
-        Answer::Refused(said) => said == number,
+        Answer::Refused(refusal) => refusal.number == number,
     }
 }

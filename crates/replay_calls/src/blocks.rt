@@ -5,7 +5,8 @@ use replay_answers::byte_at;
 use replay_answers::same_bits;
 use replay_answers::u32_at;
 ghost use mathlib.Core.Path.{_≡_};
-ghost use Rattle.dots_activation.specs.Whole.{elem, eqZ, every};
+ghost use Rattle.memory.specs.Lists.{every};
+ghost use Rattle.dots_activation.specs.Whole.{elem, eqZ};
 
 // The bytes of a block.
 pub const BLOCK: usize = 292;

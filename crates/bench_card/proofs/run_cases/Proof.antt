@@ -2,7 +2,7 @@
 use Prim.Native.Nat.{_-_, _≤_}
 use native.Mathlib.Omega.{arith}
 use borrow.Author.Needs.{needs}
-use Rattle.bench_card.proofs.Judged.{one-more}
+use Rattle.bench_card.proofs.Counted.{one-more}
 use Rattle.bench_card.proofs.run_cases.Statement.{statement}
 use Rattle.bench_card.proofs.run_cases.Tie as tie
 

@@ -1,7 +1,7 @@
 -- `run_wrong` is safe: its counts are small. Assumes nothing.
 use native.Mathlib.Omega.{arith}
 use borrow.Author.Needs.{needs}
-use Rattle.bench_card.proofs.Judged.{one-more}
+use Rattle.bench_card.proofs.Counted.{one-more}
 use Rattle.bench_card.proofs.run_wrong.Statement.{statement}
 use Rattle.bench_card.proofs.run_wrong.Tie as tie
 

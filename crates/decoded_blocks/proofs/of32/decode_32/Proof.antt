@@ -13,7 +13,7 @@ use borrow.Author.Needs.{needs}
 use Rattle.layouts.specs.Of32.{quant32, value32}
 use Rattle.layouts.proofs.Sizes.{least-32}
 use Rattle.memory.proofs.Parts.{InParts, parts-none, parts-more}
-use Rattle.decoded_blocks.proofs.Runs.{in-table, run-lengths, runs-done}
+use Rattle.decoded_blocks.proofs.Runs.{run-lengths, runs-done}
 use Rattle.decoded_blocks.proofs.of32.decode_32.Statement.{statement}
 use Rattle.decoded_blocks.proofs.of32.decode_32.Tie as tie
 
@@ -58,7 +58,7 @@ part-scale-run-start : tie.Need-part-scale-run-start Inv-loop μ-loop
 part-scale-run-start c = omega arith
 
 part-scale-run-end : tie.Need-part-scale-run-end Inv-loop μ-loop
-part-scale-run-end c = in-table (quant32 (c .before .before .before .before .before .before .before .before .before .before .args .format) (c .before .before .before .before .before .before .before .before .before .before .args .block .now)) (c .before .before .before .quants-32 .result) 32 (16 * c .before .before .loop .e + 16) (c .before .before .before .quants-32 .ensures) (omega arith)
+part-scale-run-end c = omega arith
 
 mul-scale-run : tie.Need-mul-scale-run Inv-loop μ-loop
 mul-scale-run c = omega arith
@@ -77,7 +77,7 @@ scale-run-requires c κs =
     let l = c .before .before .before .before .loop in
     let t = c .before .before .before .before .before .before .before .before .before .before .before .before in
     let q = c .before .before .before .before .before .quants-32 in
-    run-lengths (quant32 (t .args .format) (t .args .block .now)) (q .result) (l .out) 2 (l .e) (q .ensures) (l .inv .2 ∙ t .pre .1) (omega arith)
+    run-lengths (q .result) (l .out) 2 (l .e) (omega arith) (l .inv .2 ∙ t .pre .1) (omega arith)
 
 add-e : tie.Need-add-e Inv-loop μ-loop
 add-e c = omega arith

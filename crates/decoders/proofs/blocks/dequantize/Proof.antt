@@ -1,29 +1,30 @@
 -- `blocks::dequantize` meets its contract: a refusal, or every block decoded. Assumes nothing.
-use mathlib.Core.Path.{sym, ap, _∙_}
+use mathlib.Core.Path.{ap, _∙_}
 use mathlib.Core.List.{List}
-use lib.ListN.{length}
 use lib.Ieee.{Float}
 use Rattle.refusals.specs.Said.{done}
-use Rattle.refusals.proofs.Laws.{carried-done, carried-refused}
+use Rattle.refusals.proofs.Laws.{check-passed, refused-out, done-out}
 use borrow.Author.Needs.{needs}
-use Rattle.decoders.specs.Says.{dequantizeNo, dequantizeSays}
+use Rattle.decoders.specs.Says.{dequantizeSays}
 use Rattle.decoders.proofs.Refused.{room-for-values}
 use Rattle.decoders.proofs.blocks.dequantize.Statement.{statement}
 use Rattle.decoders.proofs.blocks.dequantize.Tie as tie
 
-dequantize-no-requires : tie.Need-dequantize-no-requires
-dequantize-no-requires c κs = search needs
+dequantize-refusal-requires : tie.Need-dequantize-refusal-requires
+dequantize-refusal-requires c κs = search needs
+
+enum-known-checked : tie.Need-enum-known-checked
+enum-known-checked c = search needs
 
 returns : tie.Need-returns
 unfolding dequantizeSays
-returns c =
-    let no = c .before .dequantize-no in
-    rw (no .ensures) (sym (carried-refused (dequantizeNo (c .before .before .before .before .args .format) (length (c .before .before .before .before .args .bytes .now)) (length (c .before .before .before .before .args .out .now))) _ (c .before .before .before .before .args .out .now) (rw (no .ensures) at (c .if1 .taken))))
+returns c = refused-out _ _ (c .before .before .before .dequantize-refusal .ensures) (c .before .checked .given .1)
+
+enum-told : tie.Need-enum-told
+enum-told c = search needs
 
 decode-blocks-requires : tie.Need-decode-blocks-requires
-decode-blocks-requires c κs =
-    let no = c .before .before .dequantize-no in
-    room-for-values (c .before .before .before .before .before .args .format) (length (c .before .before .before .before .before .args .bytes .now)) (length (c .before .before .before .before .before .args .out .now)) (sym (no .ensures) ∙ c .before .if1 .left)
+decode-blocks-requires c κs = room-for-values _ _ _ (check-passed (c .before .before .before .dequantize-refusal .ensures) (c .before .enum-told .given .1))
 
 same-length : tie.Need-same-length
 same-length c = search needs
@@ -31,16 +32,17 @@ same-length c = search needs
 returns-2 : tie.Need-returns-2
 unfolding dequantizeSays
 returns-2 c =
-    let no = c .before .before .before .before .before .dequantize-no in
-    ap (λ (left : List Float). (done, left)) (c .before .before .decode-blocks .ensures)
-    ∙ sym (carried-done (dequantizeNo (c .before .before .before .before .before .before .before .before .args .format) (length (c .before .before .before .before .before .before .before .before .args .bytes .now)) (length (c .before .before .before .before .before .before .before .before .args .out .now))) _ (c .before .before .before .before .before .before .before .before .args .out .now) (sym (no .ensures) ∙ c .before .before .before .before .if1 .left))
+    let f = c .before .before .before .before in
+    ap (λ (left : List Float). (done, left)) (c .before .before .decode-blocks .ensures) ∙ done-out _ _ (f .before .before .dequantize-refusal .ensures) (f .enum-told .given .1)
 
 pub dequantize-spec : {M : Type 1} → statement M
 dequantize-spec =
     tie.close
     (tie.spec
-    dequantize-no-requires
+    dequantize-refusal-requires
+    enum-known-checked
     returns
+    enum-told
     decode-blocks-requires
     same-length
     returns-2)

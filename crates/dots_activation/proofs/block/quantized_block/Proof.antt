@@ -1,6 +1,6 @@
 -- `block::quantized_block` meets its contract. Assumes nothing.
 use mathlib.Core.Path.{ap, _∙_}
-use lib.Ieee.{Float, binary32, ofBits, div}
+use lib.Ieee.{Float}
 use Rattle.memory.specs.Lists.{table}
 use Rattle.readings.specs.Readings.{inverse}
 use Rattle.dots_activation.specs.Blocks.{quantAt, blockWith, blockOf}
@@ -8,8 +8,8 @@ use borrow.Author.Needs.{needs}
 use Rattle.dots_activation.proofs.block.quantized_block.Statement.{statement}
 use Rattle.dots_activation.proofs.block.quantized_block.Tie as tie
 
-largest-magnitude-requires : tie.Need-largest-magnitude-requires
-largest-magnitude-requires c κs = search needs
+scale-q8-requires : tie.Need-scale-q8-requires
+scale-q8-requires c κs = search needs
 
 inverse-of-requires : tie.Need-inverse-of-requires
 inverse-of-requires c κs = search needs
@@ -24,19 +24,18 @@ returns : tie.Need-returns
 unfolding blockOf
 returns c =
     let x = c .before .before .before .before .before .args .x .now in
-    let largest-is = c .before .before .before .largest-magnitude .ensures in
+    let scale = c .before .before .before .scale-q8 in
     let inverse-is = c .before .before .inverse-of .ensures in
     let quants-are = c .before .quants-of .ensures in
-    let by-scale : Float → Float = λ m. div binary32 m (ofBits binary32 0x42fe_0000) in
     c .block-with .ensures
-    ∙ ap (blockWith (by-scale (c .before .before .before .largest-magnitude .result))) (quants-are ∙ ap (λ (v : Float). table (quantAt x v) 256) inverse-is)
-    ∙ ap (λ (m : Float). blockWith (by-scale m) (table (quantAt x (inverse (by-scale m))) 256)) largest-is
+    ∙ ap (blockWith (scale .result)) (quants-are ∙ ap (λ (v : Float). table (quantAt x v) 256) inverse-is)
+    ∙ ap (λ (d : Float). blockWith d (table (quantAt x (inverse d)) 256)) (scale .ensures)
 
 pub quantized-block-spec : {M : Type 1} → statement M
 quantized-block-spec =
     tie.close
     (tie.spec
-    largest-magnitude-requires
+    scale-q8-requires
     inverse-of-requires
     quants-of-requires
     block-with-requires

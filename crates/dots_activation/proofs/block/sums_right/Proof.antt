@@ -5,9 +5,10 @@ use Prim.Native.Nat.{ℕ, _-_, _≤_, _<_}
 use native.Mathlib.Omega.{arith}
 use borrow.Author.Count.{below-none, below-more}
 use borrow.Author.Tests.{not-true, not-false}
-use Rattle.dots_activation.specs.Whole.{elem, every, Within}
+use Rattle.memory.specs.Lists.{every}
+use Rattle.memory.proofs.Every.{every-none, every-more, every-not}
+use Rattle.dots_activation.specs.Whole.{elem, Within}
 use Rattle.dots_activation.specs.Blocks.{rightAt, sumsRight}
-use Rattle.dots_activation.proofs.Tests.{every-none, every-more, every-not}
 use Rattle.dots_activation.proofs.block.sums_right.Statement.{statement}
 use Rattle.dots_activation.proofs.block.sums_right.Tie as tie
 

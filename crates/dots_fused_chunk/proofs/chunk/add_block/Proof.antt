@@ -1,9 +1,14 @@
 -- `chunk::add_block` meets its contract: each layout its own. Assumes nothing.
-use mathlib.Core.Path.{sym, ap, _∙_}
+use mathlib.Core.Path.{refl, sym, ap, _∙_}
+use native.Mathlib.Omega.{arith}
+use lib.IntN.{pos}
 use Rattle.layouts.specs.Formats.{bytesK}
+use Rattle.layouts.specs.K.{quantQ4K, quantQ6K}
 use Rattle.layouts.specs.declared.format.FormatK.{FormatK}
+use Rattle.layouts.specs.declared.format.FormatK.the-variants.{Q4K, Q6K}
 use Rattle.sums_lanes.specs.Lanes.{lanesFrom}
 use Rattle.dots_fused_chunk.specs.Terms.{terms}
+use Rattle.dots_fused_chunk.proofs.Grown.{laid-out}
 use borrow.Author.Needs.{needs}
 use Rattle.dots_fused_chunk.proofs.chunk.add_block.Statement.{statement}
 use Rattle.dots_fused_chunk.proofs.chunk.add_block.Tie as tie
@@ -11,25 +16,66 @@ use Rattle.dots_fused_chunk.proofs.chunk.add_block.Tie as tie
 enum-told : tie.Need-enum-told
 enum-told c = search needs
 
-add-q4k-requires : tie.Need-add-q4k-requires
-add-q4k-requires c κs = (c .before .before .before .before .pre .0, c .before .before .before .before .pre .1 ∙ ap bytesK (c .enum-told .given .1))
+quants-q4k-requires : tie.Need-quants-q4k-requires
+quants-q4k-requires c κs = c .before .before .before .before .pre .1 ∙ ap bytesK (c .enum-told .given .1)
+
+slice-aggregate-add-sub-blocks : tie.Need-slice-aggregate-add-sub-blocks
+slice-aggregate-add-sub-blocks c = search needs
+
+add-sub-blocks-requires : tie.Need-add-sub-blocks-requires
+add-sub-blocks-requires c κs =
+    let f = c .before .before in
+    let t = f .before .before .before .before in
+    (t .pre .0, omega (arith, t .pre .1 ∙ ap bytesK (f .enum-told .given .1)), omega arith)
 
 enum-told-2 : tie.Need-enum-told-2
 enum-told-2 c = search needs
 
-add-q6k-requires : tie.Need-add-q6k-requires
-add-q6k-requires c κs = (c .before .before .before .before .pre .0, c .before .before .before .before .pre .1 ∙ ap bytesK (c .enum-told2 .given .1))
+quants-q6k-requires : tie.Need-quants-q6k-requires
+quants-q6k-requires c κs = c .before .before .before .before .pre .1 ∙ ap bytesK (c .enum-told2 .given .1)
+
+slice-aggregate-add-runs : tie.Need-slice-aggregate-add-runs
+slice-aggregate-add-runs c = search needs
+
+add-runs-requires : tie.Need-add-runs-requires
+add-runs-requires c κs =
+    let f = c .before .before in
+    let t = f .before .before .before .before in
+    (t .pre .0, t .pre .1 ∙ ap bytesK (f .enum-told2 .given .1), omega arith)
 
 returns : tie.Need-returns
 returns c =
-    let t = c .before .before .before .before .before in
-    c .add-q4k .ensures ∙ ap (λ (f : FormatK). lanesFrom (t .args .l) (terms f (t .args .x .now) (t .args .block .now)) 256) (sym (c .before .enum-told .given .1))
+    let q = c .before .before in
+    let f = q .before in
+    let t = f .before .before .before .before in
+    let a = t .args in
+    let bs = a .block .now in
+    c .add-sub-blocks .ensures
+    ∙ laid-out (a .x .now) bs Q4K (a .l) pos (quantQ4K bs) (q .quants-q4k .result) 0 (t .pre .1 ∙ ap bytesK (f .enum-told .given .1)) (q .quants-q4k .ensures) (λ i. refl)
+    ∙ ap (λ (g : FormatK). lanesFrom (a .l) (terms g (a .x .now) bs) 256) (sym (f .enum-told .given .1))
 
 returns-2 : tie.Need-returns-2
 returns-2 c =
-    let t = c .before .before .before .before .before in
-    c .add-q6k .ensures ∙ ap (λ (f : FormatK). lanesFrom (t .args .l) (terms f (t .args .x .now) (t .args .block .now)) 256) (sym (c .before .enum-told2 .given .1))
+    let q = c .before .before in
+    let f = q .before in
+    let t = f .before .before .before .before in
+    let a = t .args in
+    let bs = a .block .now in
+    c .add-runs .ensures
+    ∙ laid-out (a .x .now) bs Q6K (a .l) (λ z. z) (quantQ6K bs) (q .quants-q6k .result) (pos 0) (t .pre .1 ∙ ap bytesK (f .enum-told2 .given .1)) (q .quants-q6k .ensures) (λ i. refl)
+    ∙ ap (λ (g : FormatK). lanesFrom (a .l) (terms g (a .x .now) bs) 256) (sym (f .enum-told2 .given .1))
 
 pub add-block-spec : {M : Type 1} → statement M
 add-block-spec =
-    tie.close (tie.spec enum-told add-q4k-requires enum-told-2 add-q6k-requires returns returns-2)
+    tie.close
+    (tie.spec
+    enum-told
+    quants-q4k-requires
+    slice-aggregate-add-sub-blocks
+    add-sub-blocks-requires
+    enum-told-2
+    quants-q6k-requires
+    slice-aggregate-add-runs
+    add-runs-requires
+    returns
+    returns-2)

@@ -5,7 +5,7 @@ use lib.ListN.{length}
 use Rattle.sums_lanes.specs.Lanes.{lanes}
 use Rattle.dots_fused_chunk.specs.Terms.{terms}
 use Rattle.dots_fused_chunk.proofs.Rows.{block-room, block-terms}
-use Rattle.dots_fused_chunk.proofs.Runs.{run-more}
+use Rattle.dots_fused_chunk.proofs.Grown.{run-more}
 use native.Mathlib.Omega.{arith}
 use borrow.Author.Needs.{needs}
 use Rattle.dots_fused_chunk.proofs.chunk.all_blocks.Statement.{statement}

@@ -5,7 +5,7 @@ use Rattle.sums_lanes.specs.Lanes.{lanes}
 use Rattle.sums_lanes.proofs.LaneLaws.{lanes-none}
 use Rattle.dots_fused_chunk.specs.Terms.{terms}
 use Rattle.dots_fused_chunk.proofs.Rows.{block-room, block-terms}
-use Rattle.dots_fused_chunk.proofs.Runs.{Grown, grown-more, grown-done}
+use Rattle.dots_fused_chunk.proofs.Grown.{Grown, grown-more, grown-done}
 use native.Mathlib.Omega.{arith}
 use borrow.Author.Needs.{needs}
 use Rattle.dots_fused_chunk.proofs.chunk.whole_blocks.Statement.{statement}

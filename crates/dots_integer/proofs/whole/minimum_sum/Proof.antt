@@ -37,7 +37,7 @@ shared-slice-copy-out-weighed c = omega arith
 weighed-requires : tie.Need-weighed-requires Inv-loop μ-loop
 weighed-requires c κs =
     let b = c .before .before .before in
-    rw (read-is w32 _ (c .weighed-arg .given)) (within (b .before .before .pre .2 (b .loop .j) (omega arith)) (omega arith))
+    rw (read-is w32 _ (c .weighed-arg .given)) (within (b .before .before .pre .2 .near (b .loop .j) (omega arith)) (omega arith))
 
 -- the turn's product
 turn : (c : tie.After-weighed Inv-loop μ-loop)

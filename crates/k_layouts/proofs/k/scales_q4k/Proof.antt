@@ -1,27 +1,23 @@
 -- `k::scales_q4k` meets its contract: the places are filled in turn. Assumes nothing.
 use mathlib.Core.Path.{refl, ap, _∙_}
-use Prim.Native.Nat.{ℕ, _-_}
+use Prim.Native.Nat.{_-_}
 use mathlib.Core.List.{List}
-use lib.IntN.{pos}
 use lib.ListN.{replicate}
-use lib.Ieee.{Float, binary32, ofBits, mul, ofInt}
+use lib.Ieee.{Float, binary32, ofBits}
 use Rattle.halves.specs.Binary16.{widened}
 use native.Mathlib.Omega.{arith}
 use borrow.Author.Needs.{needs}
-use Rattle.layouts.specs.K.{scaleQ4K, dOf}
+use Rattle.layouts.specs.K.{dScale}
 use Rattle.layouts.specs.declared.format.FormatK.the-variants.{Q4K}
 use Rattle.memory.proofs.Filled.{Filling, filling-start, filling-more, filling-done}
 use Rattle.k_layouts.proofs.k.scales_q4k.Statement.{statement}
 use Rattle.k_layouts.proofs.k.scales_q4k.Tie as tie
 
-abbrev at : List ℕ → ℕ → Float
-at bs j = mul binary32 (dOf Q4K bs) (ofInt binary32 (pos (scaleQ4K bs j)))
-
 abbrev zeros : List Float
 zeros = replicate 8 (ofBits binary32 0)
 
 abbrev Inv-loop : tie.InvT-loop
-Inv-loop block d s₀ j₀ s j = Filling (at block) s₀ 8 s j
+Inv-loop block d s₀ j₀ s j = Filling (dScale Q4K block) s₀ 8 s j
 
 abbrev μ-loop : tie.MeasureT-loop
 μ-loop block d s₀ j₀ s j = 8 - j
@@ -39,7 +35,7 @@ f16-to-f32-requires : tie.Need-f16-to-f32-requires Inv-loop μ-loop
 f16-to-f32-requires c κs = search needs
 
 loop-holds : tie.Need-loop-holds Inv-loop μ-loop
-loop-holds c = filling-start (at (c .before .before .before .before .before .args .block .now)) zeros 8 refl
+loop-holds c = filling-start (dScale Q4K (c .before .before .before .before .before .args .block .now)) zeros 8 refl
 
 scale-q4k-requires : tie.Need-scale-q4k-requires Inv-loop μ-loop
 scale-q4k-requires c κs = search needs
@@ -64,13 +60,13 @@ loop-again c =
     let l = c .before .before .before .loop in
     let f = c .before .before .before .before in
     let t = f .before .before .before .before .before in
-    filling-more (at (t .args .block .now)) zeros 8 (l .s) (l .j) _ refl (l .inv) (c .before .before .loop-test .taken)
+    filling-more (dScale Q4K (t .args .block .now)) zeros 8 (l .s) (l .j) _ refl (l .inv) (c .before .before .loop-test .taken)
     (rw (f .f16-to-f32 .ensures ∙ ap widened (f .before .le-u16 .ensures), c .before .scale-q4k .ensures .0))
 
 returns : tie.Need-returns Inv-loop μ-loop
 returns c =
     let l = c .before .loop in
-    filling-done (at (c .before .before .before .before .before .before .before .args .block .now)) zeros 8 (l .s) (l .j) refl (l .inv) (c .loop-test .left)
+    filling-done (dScale Q4K (c .before .before .before .before .before .before .before .args .block .now)) zeros 8 (l .s) (l .j) refl (l .inv) (c .loop-test .left)
 
 pub scales-q4k-spec : {M : Type 1} → statement M
 scales-q4k-spec =

@@ -1,30 +1,25 @@
 -- `k::scales_q6k` meets its contract: the places are filled in turn. Assumes nothing.
 use mathlib.Core.Path.{refl, ap, _∙_}
-use Prim.Native.Nat.{ℕ, _-_, _*_}
-use native.Mathlib.Nat.{add-zero}
+use Prim.Native.Nat.{_-_}
 use mathlib.Core.List.{List}
 use lib.ListN.{replicate}
-use lib.Ieee.{Float, binary32, ofBits, mul, ofInt}
+use lib.Ieee.{Float, binary32, ofBits}
 use mir.Syntax.{w8}
 use Rattle.halves.specs.Binary16.{widened}
 use Rattle.numbers.proofs.Signed.{read-is}
 use native.Mathlib.Omega.{arith}
 use borrow.Author.Needs.{needs}
-use Rattle.layouts.specs.K.{scaleQ6K, dOf}
+use Rattle.layouts.specs.K.{scaleQ6K, dScale}
 use Rattle.layouts.specs.declared.format.FormatK.the-variants.{Q6K}
-use Rattle.k_layouts.proofs.Scales.{scale-run}
 use Rattle.memory.proofs.Filled.{Filling, filling-start, filling-more, filling-done}
 use Rattle.k_layouts.proofs.k.scales_q6k.Statement.{statement}
 use Rattle.k_layouts.proofs.k.scales_q6k.Tie as tie
-
-abbrev at : List ℕ → ℕ → Float
-at bs e = mul binary32 (dOf Q6K bs) (ofInt binary32 (scaleQ6K bs (16 * e)))
 
 abbrev zeros : List Float
 zeros = replicate 16 (ofBits binary32 0)
 
 abbrev Inv-loop : tie.InvT-loop
-Inv-loop block d s₀ e₀ s e = Filling (at block) s₀ 16 s e
+Inv-loop block d s₀ e₀ s e = Filling (dScale Q6K block) s₀ 16 s e
 
 abbrev μ-loop : tie.MeasureT-loop
 μ-loop block d s₀ e₀ s e = 16 - e
@@ -42,7 +37,7 @@ f16-to-f32-requires : tie.Need-f16-to-f32-requires Inv-loop μ-loop
 f16-to-f32-requires c κs = search needs
 
 loop-holds : tie.Need-loop-holds Inv-loop μ-loop
-loop-holds c = filling-start (at (c .before .before .before .before .before .args .block .now)) zeros 16 refl
+loop-holds c = filling-start (dScale Q6K (c .before .before .before .before .before .args .block .now)) zeros 16 refl
 
 add-signed-byte : tie.Need-add-signed-byte Inv-loop μ-loop
 add-signed-byte c = omega arith
@@ -69,18 +64,19 @@ loop-less : tie.Need-loop-less Inv-loop μ-loop
 loop-less c = omega arith
 
 loop-again : tie.Need-loop-again Inv-loop μ-loop
+unfolding scaleQ6K
 loop-again c =
     let l = c .before .before .before .before .loop in
     let f = c .before .before .before .before .before in
     let bs = f .before .before .before .before .before .args .block .now in
     let h = c .before .before .before .loop-test .taken in
-    filling-more (at bs) zeros 16 (l .s) (l .e) _ refl (l .inv) h
-    (rw (f .f16-to-f32 .ensures ∙ ap widened (f .before .le-u16 .ensures), read-is w8 _ (c .before .signed-byte .ok), c .before .signed-byte .ensures, ← scale-run bs (l .e) 0 h (omega arith), add-zero (16 * l .e)))
+    filling-more (dScale Q6K bs) zeros 16 (l .s) (l .e) _ refl (l .inv) h
+    (rw (f .f16-to-f32 .ensures ∙ ap widened (f .before .le-u16 .ensures), read-is w8 _ (c .before .signed-byte .ok), c .before .signed-byte .ensures))
 
 returns : tie.Need-returns Inv-loop μ-loop
 returns c =
     let l = c .before .loop in
-    filling-done (at (c .before .before .before .before .before .before .before .args .block .now)) zeros 16 (l .s) (l .e) refl (l .inv) (c .loop-test .left)
+    filling-done (dScale Q6K (c .before .before .before .before .before .before .before .args .block .now)) zeros 16 (l .s) (l .e) refl (l .inv) (c .loop-test .left)
 
 pub scales-q6k-spec : {M : Type 1} → statement M
 scales-q6k-spec =

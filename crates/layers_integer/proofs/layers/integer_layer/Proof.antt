@@ -1,28 +1,37 @@
 -- `layers::integer_layer` meets its contract: a refusal, or every output. Assumes nothing.
-use mathlib.Core.Path.{sym, ap, _∙_}
+use mathlib.Core.Path.{ap, _∙_}
 use mathlib.Core.List.{List}
 use lib.Ieee.{Float}
-use Rattle.refusals.specs.Said.{done}
-use Rattle.refusals.proofs.Laws.{carried-done, carried-refused}
-use Rattle.layers_integer.specs.Says.{integerLayerSays}
+use native.Mathlib.Omega.{arith}
 use borrow.Author.Needs.{needs}
+use Rattle.refusals.specs.Said.{done}
+use Rattle.refusals.proofs.Laws.{check-passed, refused-out, done-out}
+use Rattle.layers_integer.specs.Says.{integerLayerSays}
 use Rattle.layers_integer.proofs.layers.integer_layer.Statement.{statement}
 use Rattle.layers_integer.proofs.layers.integer_layer.Tie as tie
 
-layer-no-requires : tie.Need-layer-no-requires
-layer-no-requires c κs = search needs
+layer-refusal-requires : tie.Need-layer-refusal-requires
+layer-refusal-requires c κs = search needs
+
+enum-known-refusal : tie.Need-enum-known-refusal
+enum-known-refusal c = search needs
 
 returns : tie.Need-returns
 unfolding integerLayerSays
-returns c =
-    let no = c .before .layer-no in
-    rw (no .ensures) (sym (carried-refused _ _ _ (rw (no .ensures) at (c .if1 .taken))))
+returns c = refused-out _ _ (c .before .before .before .layer-refusal .ensures) (c .before .refusal .given .1)
+
+enum-told : tie.Need-enum-told
+enum-told c = search needs
 
 rows-of-512-requires : tie.Need-rows-of-512-requires
-rows-of-512-requires c κs = search needs
+rows-of-512-requires c κs =
+    let e = c .before .before .before in
+    check-passed (e .before .before .layer-refusal .ensures) (e .enum-told .given .1)
 
 rows-of-16-requires : tie.Need-rows-of-16-requires
-rows-of-16-requires c κs = search needs
+rows-of-16-requires c κs =
+    let e = c .before .before .before in
+    (check-passed (e .before .before .layer-refusal .ensures) (e .enum-told .given .1), omega arith)
 
 same-length : tie.Need-same-length
 same-length c = search needs
@@ -32,7 +41,7 @@ unfolding integerLayerSays
 returns-2 c =
     let r = c .before .before in
     let e = r .before .before .before .before in
-    ap (λ (y : List Float). (done, y)) (r .rows-of-512 .ensures) ∙ sym (carried-done _ _ _ (sym (e .before .layer-no .ensures) ∙ e .if1 .left))
+    ap (λ (y : List Float). (done, y)) (r .rows-of-512 .ensures) ∙ done-out _ _ (e .before .before .layer-refusal .ensures) (e .enum-told .given .1)
 
 same-length-2 : tie.Need-same-length-2
 same-length-2 c = search needs
@@ -42,14 +51,16 @@ unfolding integerLayerSays
 returns-3 c =
     let r = c .before .before in
     let e = r .before .before .before .before in
-    ap (λ (y : List Float). (done, y)) (r .rows-of-16 .ensures) ∙ sym (carried-done _ _ _ (sym (e .before .layer-no .ensures) ∙ e .if1 .left))
+    ap (λ (y : List Float). (done, y)) (r .rows-of-16 .ensures) ∙ done-out _ _ (e .before .before .layer-refusal .ensures) (e .enum-told .given .1)
 
 pub integer-layer-spec : {M : Type 1} → statement M
 integer-layer-spec =
     tie.close
     (tie.spec
-    layer-no-requires
+    layer-refusal-requires
+    enum-known-refusal
     returns
+    enum-told
     rows-of-512-requires
     rows-of-16-requires
     same-length

@@ -11,8 +11,9 @@ use Rattle.memory.proofs.Filled.{filled-none, part-length, part-turn}
 use Rattle.memory.proofs.Parts.{within}
 use Rattle.layers_shape.specs.Shapes.{outputs}
 use Rattle.layers_shape.proofs.Fits.{Fits, fits}
-use Rattle.held_rows.specs.Held.{HeldRoom, Holds, heldRowDot}
-use Rattle.held_rows.proofs.Blocks.{room-same, held-by}
+use Rattle.dots_kept_row.specs.Inner.{KeptRoom, Keeps}
+use Rattle.dots_kept_row.proofs.Blocks.{room-same, kept-by}
+use Rattle.layers_integer_row.specs.Inner.{keptRowDot}
 use Rattle.layers_integer_row.specs.Outputs.{integerDotAt}
 use Rattle.layers_integer_row.proofs.Outputs.{row-same}
 use native.Mathlib.Omega.{arith}
@@ -20,12 +21,12 @@ use Rattle.layers_integer_row.proofs.rows.all_rows.Statement.{statement
 use Rattle.layers_integer_row.proofs.rows.all_rows.Tie as tie
 
 abbrev Inv-loop : tie.InvT-loop
-Inv-loop format meeting x w ds₀ qs₀ sums₀ parts₀ y₀ n outs b₀ b-end ds qs sums parts y b =
+Inv-loop format meeting x w ds₀ qs₀ sums₀ dots₀ y₀ n outs b₀ b-end ds qs sums dots y b =
     (y ≡ filled (λ k. integerDotAt format meeting (part x (k / outs * n) n) w n (k % outs)) y₀ (b * outs)) × (b ≤ b-end) × (length y ≡ length y₀)
-    × (length ds ≡ length ds₀) × (length qs ≡ length qs₀) × (length sums ≡ length sums₀) × (length parts ≡ length parts₀)
+    × (length ds ≡ length ds₀) × (length qs ≡ length qs₀) × (length sums ≡ length sums₀) × (length dots ≡ length dots₀)
 
 abbrev μ-loop : tie.MeasureT-loop
-μ-loop format meeting x w ds₀ qs₀ sums₀ parts₀ y₀ n outs b₀ b-end ds qs sums parts y b = b-end - b
+μ-loop format meeting x w ds₀ qs₀ sums₀ dots₀ y₀ n outs b₀ b-end ds qs sums dots y b = b-end - b
 
 loop-holds : tie.Need-loop-holds Inv-loop μ-loop
 loop-holds c = (rw zero-mul (filled-none _ _), zero-le, refl, refl, refl, refl, refl)
@@ -52,17 +53,17 @@ mul-from c = omega (arith, facts c .1, facts c .2)
 add-to : tie.Need-add-to Inv-loop μ-loop
 add-to c = omega (arith, facts c .1, facts c .2)
 
-mul-hold-row : tie.Need-mul-hold-row Inv-loop μ-loop
-mul-hold-row c = omega (arith, facts c .1, facts c .2)
+mul-keep-row : tie.Need-mul-keep-row Inv-loop μ-loop
+mul-keep-row c = omega (arith, facts c .1, facts c .2)
 
-sub-hold-row : tie.Need-sub-hold-row Inv-loop μ-loop
-sub-hold-row c = omega (arith, facts c .1, facts c .2)
+sub-keep-row : tie.Need-sub-keep-row Inv-loop μ-loop
+sub-keep-row c = omega (arith, facts c .1, facts c .2)
 
-part-hold-row-start : tie.Need-part-hold-row-start Inv-loop μ-loop
-part-hold-row-start c = omega (arith, facts c .1, facts c .2)
+part-keep-row-start : tie.Need-part-keep-row-start Inv-loop μ-loop
+part-keep-row-start c = omega (arith, facts c .1, facts c .2)
 
-part-hold-row-end : tie.Need-part-hold-row-end Inv-loop μ-loop
-part-hold-row-end c = omega (arith, facts c .1, facts c .2)
+part-keep-row-end : tie.Need-part-keep-row-end Inv-loop μ-loop
+part-keep-row-end c = omega (arith, facts c .1, facts c .2)
 
 -- row b of the readings has its length
 long : (c : tie.In-loop Inv-loop μ-loop)
@@ -76,17 +77,17 @@ long c =
     part-length (a .x .now) from n (from + n) refl (facts c .1)
 
 -- room for a row's blocks
-room : (c : tie.In-loop Inv-loop μ-loop) → (let l = c .before .loop in HeldRoom (c .before .before .before .before .before .before .before .args .s .«in_feat» / 256) (l .ds) (l .qs) (l .sums))
+room : (c : tie.In-loop Inv-loop μ-loop) → (let l = c .before .loop in KeptRoom (c .before .before .before .before .before .before .before .args .s .«in_feat» / 256) (l .ds) (l .qs) (l .sums))
 room c =
     let t = c .before .before .before .before .before .before .before in
     let l = c .before .loop in
     room-same _ (t .args .ds .now) (l .ds) (t .args .qs .now) (l .qs) (t .args .sums .now) (l .sums) (l .inv .3) (l .inv .4) (l .inv .5) (t .pre .2)
 
-hold-row-requires : tie.Need-hold-row-requires Inv-loop μ-loop
-hold-row-requires c κs =
+keep-row-requires : tie.Need-keep-row-requires Inv-loop μ-loop
+keep-row-requires c κs =
     let d = c .before .before .before .before in
     let l = d .before .loop in
-    (le-trans (le-of-eq (long d)) (facts d .0 .within .in-in), subst (λ (z : ℕ). HeldRoom (z / 256) (l .ds) (l .qs) (l .sums)) (sym (long d)) (room d))
+    (le-trans (le-of-eq (long d)) (facts d .0 .within .in-in), subst (λ (z : ℕ). KeptRoom (z / 256) (l .ds) (l .qs) (l .sums)) (sym (long d)) (room d))
 
 mul-at : tie.Need-mul-at Inv-loop μ-loop
 mul-at c = let d = c .before .before .before .before .before .before .before .before .before in omega (arith, facts d .2)
@@ -106,25 +107,25 @@ part-one-row-start c = let d = c .before .before .before .before .before .before
 part-one-row-end : tie.Need-part-one-row-end Inv-loop μ-loop
 part-one-row-end c = let d = c .before .before .before .before .before .before .before .before .before .before .before .before .before in omega (arith, facts d .2, d .before .loop .inv .2)
 
--- row b is held
-holds : (c : tie.After-hold-row Inv-loop μ-loop)
+-- row b is kept
+keeps : (c : tie.After-keep-row Inv-loop μ-loop)
     → (let d = c .before .before .before .before .before in
     let a = d .before .before .before .before .before .before .before .args in
     let n = a .s .«in_feat» in
-    let h = c .hold-row .last in
-    Holds (part (a .x .now) (d .before .loop .b * n) n) (n / 256) (h .1 .0) (h .1 .1 .0) (h .1 .1 .1 .0) × HeldRoom (n / 256) (h .1 .0) (h .1 .1 .0) (h .1 .1 .1 .0))
-holds c =
+    let h = c .keep-row .last in
+    Keeps (part (a .x .now) (d .before .loop .b * n) n) (n / 256) (h .1 .0) (h .1 .1 .0) (h .1 .1 .1 .0) × KeptRoom (n / 256) (h .1 .0) (h .1 .1 .0) (h .1 .1 .1 .0))
+keeps c =
     let d = c .before .before .before .before .before in
     let a = d .before .before .before .before .before .before .before .args in
     let n = a .s .«in_feat» in
     let l = d .before .loop in
     let from = l .b * n in
-    let h = c .hold-row .last in
-    let k = c .hold-row .kept in
+    let h = c .keep-row .last in
+    let k = c .keep-row .kept in
     let width : from + n - from ≡ n = omega arith in
     let row = take (from + n - from) (drop from (a .x .now)) in
-    let by-length = subst (λ (z : ℕ). Holds row (z / 256) (h .1 .0) (h .1 .1 .0) (h .1 .1 .1 .0)) (long d) (c .hold-row .ensures) in (
-      subst (λ (z : ℕ). Holds (take z (drop from (a .x .now))) (n / 256) (h .1 .0) (h .1 .1 .0) (h .1 .1 .1 .0)) width by-length,
+    let by-length = subst (λ (z : ℕ). Keeps row (z / 256) (h .1 .0) (h .1 .1 .0) (h .1 .1 .1 .0)) (long d) (c .keep-row .ensures) in (
+      subst (λ (z : ℕ). Keeps (take z (drop from (a .x .now))) (n / 256) (h .1 .0) (h .1 .1 .0) (h .1 .1 .1 .0)) width by-length,
       room-same (n / 256) (l .ds) (h .1 .0) (l .qs) (h .1 .1 .0) (l .sums) (h .1 .1 .1 .0) (k .1 .0) (k .1 .1 .0) (k .1 .1 .1 .0) (room d),
     )
 
@@ -133,7 +134,7 @@ places : (c : tie.In-loop Inv-loop μ-loop)
     → (let a = c .before .before .before .before .before .before .before .args in
     let l = c .before .loop in
     let at = l .b * a .s .«out_feat» in
-    (length (l .parts) ≡ a .s .«in_feat» / 256) × (length (take (at + a .s .«out_feat» - at) (drop at (l .y))) ≡ a .s .«out_feat»))
+    (length (l .dots) ≡ a .s .«in_feat» / 256) × (length (take (at + a .s .«out_feat» - at) (drop at (l .y))) ≡ a .s .«out_feat»))
 places c =
     let t = c .before .before .before .before .before .before .before in
     let outs = t .args .s .«out_feat» in
@@ -148,9 +149,9 @@ one-row-requires c κs =
     let d = k .before .before .before .before .before in
     let f = facts d .0 in
     let p = places d in
-    let h = k .hold-row .last in
-    let held = holds k in
-    rw (p .0, p .1) (omega (arith, f .within .in-in), f .within .out-in, f .weighed, held-by _ _ (h .1 .0) (h .1 .1 .0) (h .1 .1 .1 .0) (held .1) (held .0))
+    let h = k .keep-row .last in
+    let row = keeps k in
+    rw (p .0, p .1) (omega (arith, f .within .in-in), f .within .out-in, f .weighed, kept-by _ _ (h .1 .0) (h .1 .1 .0) (h .1 .1 .1 .0) (row .1) (row .0))
 
 add-b : tie.Need-add-b Inv-loop μ-loop
 add-b c = let d = c .before .before .before .before .before .before .before .before .before .before .before .before .before .before .before .before .before .before .before in omega (arith, d .loop-test .taken, facts d .0 .within .batch-in)
@@ -170,16 +171,16 @@ loop-again c =
     let b = l .b in
     let x = a .x .now in
     let w = a .w .now in
-    let h = k .hold-row .last in
-    let kept = k .hold-row .kept in
+    let h = k .keep-row .last in
+    let kept = k .keep-row .kept in
     let p = places d in
     let f : ℕ → Float = λ j. integerDotAt (a .format) (a .meeting) (part x (j / outs * n) n) w n (j % outs) in
-    let g : ℕ → Float = heldRowDot (a .format) (a .meeting) w (h .1 .0) (h .1 .1 .0) (h .1 .1 .1 .0) (length (l .parts)) in
+    let g : ℕ → Float = keptRowDot (a .format) (a .meeting) w (h .1 .0) (h .1 .1 .0) (h .1 .1 .1 .0) (length (l .dots)) in
     let next : (b + 1) * outs ≡ b * outs + outs = rw add-one (suc-mul b outs) in
     let same : (o : ℕ) → o < outs → g o ≡ f (b * outs + o) =
     λ o t.
-    ap (λ (z : ℕ). heldRowDot (a .format) (a .meeting) w (h .1 .0) (h .1 .1 .0) (h .1 .1 .1 .0) z o) (p .0)
-    ∙ row-same (a .format) (part x (b * n) n) n (h .1 .0) (h .1 .1 .0) (h .1 .1 .1 .0) (holds k .0) (a .meeting) w o
+    ap (λ (z : ℕ). keptRowDot (a .format) (a .meeting) w (h .1 .0) (h .1 .1 .0) (h .1 .1 .1 .0) z o) (p .0)
+    ∙ row-same (a .format) (part x (b * n) n) n (h .1 .0) (h .1 .1 .0) (h .1 .1 .1 .0) (keeps k .0) (a .meeting) w o
     ∙ rw (digits-div b t, digits-mod b t) in
     let r =
     part-turn f g (a .y .now) (l .y) (q .one-row .last .1 .1 .1 .1 .1 .1 .1 .0) (b * outs) outs (b * outs + outs) ((b + 1) * outs) refl next (facts d .2) (l .inv .0)
@@ -221,11 +222,11 @@ all-rows-spec =
     loop-holds
     mul-from
     add-to
-    mul-hold-row
-    sub-hold-row
-    part-hold-row-start
-    part-hold-row-end
-    hold-row-requires
+    mul-keep-row
+    sub-keep-row
+    part-keep-row-start
+    part-keep-row-end
+    keep-row-requires
     mul-at
     add-end
     mul-one-row

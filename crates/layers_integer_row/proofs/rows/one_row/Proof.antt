@@ -11,22 +11,23 @@ use Rattle.layouts.specs.declared.format.Format.the-variants.{OfK}
 use Rattle.layouts.proofs.Sizes.{sizes}
 use Rattle.layers_shape.proofs.Fits.{product-small}
 use native.Mathlib.Omega.{arith}
-use Rattle.held_rows.specs.Meets.{meets}
-use Rattle.held_rows.specs.Held.{HeldRow, heldDot, heldRowDot}
+use Rattle.dots_kept_row.specs.Meets.{meets}
+use Rattle.dots_kept_row.specs.Inner.{KeptRow, keptDot}
+use Rattle.layers_integer_row.specs.Inner.{keptRowDot}
 use Rattle.layers_integer_row.proofs.rows.one_row.Statement.{statement}
 use Rattle.layers_integer_row.proofs.rows.one_row.Tie as tie
 
 abbrev Inv-loop : tie.InvT-loop
-Inv-loop format meeting w ds qs sums parts₀ y₀ size o₀ o-end parts y o = (length parts ≡ length parts₀) × Filling (heldRowDot format meeting w ds qs sums (length parts₀)) y₀ (length y₀) y o
+Inv-loop format meeting w ds qs sums dots₀ y₀ size o₀ o-end dots y o = (length dots ≡ length dots₀) × Filling (keptRowDot format meeting w ds qs sums (length dots₀)) y₀ (length y₀) y o
 
 abbrev μ-loop : tie.MeasureT-loop
-μ-loop format meeting w ds qs sums parts₀ y₀ size o₀ o-end parts y o = length y₀ - o
+μ-loop format meeting w ds qs sums dots₀ y₀ size o₀ o-end dots y o = length y₀ - o
 
 block-bytes-requires : tie.Need-block-bytes-requires Inv-loop μ-loop
 block-bytes-requires c κs = omega arith
 
 -- a row's bytes are few
-small : (c : tie.After-block-bytes Inv-loop μ-loop) → length (c .before .before .before .before .before .args .parts .now) * c .block-bytes .result ≤ 107520
+small : (c : tie.After-block-bytes Inv-loop μ-loop) → length (c .before .before .before .before .before .args .dots .now) * c .block-bytes .result ≤ 107520
 small c =
     let s = c .before .before .before .before .before in
     product-small _ _ 512 210 (s .pre .0) (rw (c .block-bytes .ensures) (sizes (OfK (s .args .format)) .1))
@@ -35,12 +36,12 @@ small c =
 facts : (c : tie.In-loop Inv-loop μ-loop)
     → (let k = c .before .before in
     let a = k .before .before .before .before .before .args in
-    let size = length (a .parts .now) * k .block-bytes .result in
+    let size = length (a .dots .now) * k .block-bytes .result in
     (c .before .loop .o * size + size ≤ length (a .w .now)) × (size ≤ 107520) × (c .before .loop .o < 65536))
 facts c =
     let k = c .before .before in
     let s = k .before .before .before .before .before in
-    let size = length (s .args .parts .now) * k .block-bytes .result in
+    let size = length (s .args .dots .now) * k .block-bytes .result in
     let room : length (s .args .y .now) * size ≤ length (s .args .w .now) = rw (k .block-bytes .ensures) (s .pre .2) in
     (within (c .before .loop .o) size (length (s .args .y .now)) (length (s .args .w .now)) (c .loop-test .taken) room, small k, omega (arith, c .loop-test .taken, s .pre .1))
 
@@ -56,26 +57,26 @@ mul-from c = omega (arith, facts c)
 add-to : tie.Need-add-to Inv-loop μ-loop
 add-to c = omega (arith, facts c)
 
-sub-row-dot : tie.Need-sub-row-dot Inv-loop μ-loop
-sub-row-dot c = omega (arith, facts c)
+sub-kept-row-dot : tie.Need-sub-kept-row-dot Inv-loop μ-loop
+sub-kept-row-dot c = omega (arith, facts c)
 
-part-row-dot-start : tie.Need-part-row-dot-start Inv-loop μ-loop
-part-row-dot-start c = omega (arith, facts c)
+part-kept-row-dot-start : tie.Need-part-kept-row-dot-start Inv-loop μ-loop
+part-kept-row-dot-start c = omega (arith, facts c)
 
-part-row-dot-end : tie.Need-part-row-dot-end Inv-loop μ-loop
-part-row-dot-end c = omega (arith, facts c)
+part-kept-row-dot-end : tie.Need-part-kept-row-dot-end Inv-loop μ-loop
+part-kept-row-dot-end c = omega (arith, facts c)
 
-row-dot-requires : tie.Need-row-dot-requires Inv-loop μ-loop
-row-dot-requires c κs =
+kept-row-dot-requires : tie.Need-kept-row-dot-requires Inv-loop μ-loop
+kept-row-dot-requires c κs =
     let d = c .before .before in
     let k = d .before .before in
     let s = k .before .before .before .before .before in
     let l = d .before .loop in
-    let size = length (s .args .parts .now) * k .block-bytes .result in
+    let size = length (s .args .dots .now) * k .block-bytes .result in
     let e = l .inv .0 in
     let long = part-length (s .args .w .now) (l .o * size) size (l .o * size + size) refl (facts d .0) in
-    let bytes = ap (λ (n : ℕ). n * bytesK (s .args .format)) e ∙ ap (λ (z : ℕ). length (s .args .parts .now) * z) (sym (k .block-bytes .ensures)) in
-    (le-trans (le-of-eq e) (s .pre .0), le-of-eq (bytes ∙ sym long), subst (λ (n : ℕ). HeldRow n (s .args .ds .now) (s .args .qs .now) (s .args .sums .now)) (sym e) (s .pre .3))
+    let bytes = ap (λ (n : ℕ). n * bytesK (s .args .format)) e ∙ ap (λ (z : ℕ). length (s .args .dots .now) * z) (sym (k .block-bytes .ensures)) in
+    (le-trans (le-of-eq e) (s .pre .0), le-of-eq (bytes ∙ sym long), subst (λ (n : ℕ). KeptRow n (s .args .ds .now) (s .args .qs .now) (s .args .sums .now)) (sym e) (s .pre .3))
 
 mul-y : tie.Need-mul-y Inv-loop μ-loop
 mul-y c = omega arith
@@ -96,15 +97,15 @@ loop-again c =
     let k = d .before .before in
     let a = k .before .before .before .before .before .args in
     let l = d .before .loop in
-    let n = length (a .parts .now) in
+    let n = length (a .dots .now) in
     let size = n * k .block-bytes .result in
     let row = take (l .o * size + size - l .o * size) (drop (l .o * size) (a .w .now)) in
     let value =
-    q .row-dot .ensures
-    ∙ ap (meets (a .meeting) (heldDot (a .format) row (a .ds .now) (a .qs .now) (a .sums .now))) (l .inv .0)
-    ∙ ap (λ (v : List ℕ). meets (a .meeting) (heldDot (a .format) v (a .ds .now) (a .qs .now) (a .sums .now)) n)
+    q .kept-row-dot .ensures
+    ∙ ap (meets (a .meeting) (keptDot (a .format) row (a .ds .now) (a .qs .now) (a .sums .now))) (l .inv .0)
+    ∙ ap (λ (v : List ℕ). meets (a .meeting) (keptDot (a .format) v (a .ds .now) (a .qs .now) (a .sums .now)) n)
     (lent-part (a .w .now) (l .o) size (n * bytesK (a .format)) (ap (λ (z : ℕ). n * z) (k .block-bytes .ensures))) in
-    (q .row-dot .kept .1 .1 .1 .1 .1 .1 .0 ∙ l .inv .0, filling-more (heldRowDot (a .format) (a .meeting) (a .w .now) (a .ds .now) (a .qs .now) (a .sums .now) n) (a .y .now) (length (a .y .now)) (l .y) (l .o) _ refl (l .inv .1) (d .loop-test .taken) value)
+    (q .kept-row-dot .kept .1 .1 .1 .1 .1 .1 .0 ∙ l .inv .0, filling-more (keptRowDot (a .format) (a .meeting) (a .w .now) (a .ds .now) (a .qs .now) (a .sums .now) n) (a .y .now) (length (a .y .now)) (l .y) (l .o) _ refl (l .inv .1) (d .loop-test .taken) value)
 
 same-length : tie.Need-same-length Inv-loop μ-loop
 same-length c = c .before .loop .inv .0
@@ -116,7 +117,7 @@ returns : tie.Need-returns Inv-loop μ-loop
 returns c =
     let a = c .before .before .before .before .before .before .before .args in
     let l = c .before .loop in
-    filling-done (heldRowDot (a .format) (a .meeting) (a .w .now) (a .ds .now) (a .qs .now) (a .sums .now) (length (a .parts .now))) (a .y .now) (length (a .y .now)) (l .y) (l .o) refl (l .inv .1) (c .loop-test .left)
+    filling-done (keptRowDot (a .format) (a .meeting) (a .w .now) (a .ds .now) (a .qs .now) (a .sums .now) (length (a .dots .now))) (a .y .now) (length (a .y .now)) (l .y) (l .o) refl (l .inv .1) (c .loop-test .left)
 
 pub one-row-spec : {M : Type 1} → statement M
 one-row-spec =
@@ -129,10 +130,10 @@ one-row-spec =
     loop-holds
     mul-from
     add-to
-    sub-row-dot
-    part-row-dot-start
-    part-row-dot-end
-    row-dot-requires
+    sub-kept-row-dot
+    part-kept-row-dot-start
+    part-kept-row-dot-end
+    kept-row-dot-requires
     mul-y
     slice-write-y
     add-o

@@ -8,7 +8,7 @@ use Rattle.numbers.specs.Steps.{nought}
 use Rattle.layers_shape.proofs.Fits.{fits}
 use native.Mathlib.Omega.{arith}
 use borrow.Author.Needs.{needs}
-use Rattle.held_rows.proofs.Blocks.{room-new}
+use Rattle.dots_kept_row.proofs.Blocks.{room-new}
 use Rattle.layers_integer_row.proofs.rows.rows_of_512.Statement.{statement}
 use Rattle.layers_integer_row.proofs.rows.rows_of_512.Tie as tie
 
@@ -25,8 +25,8 @@ slice-aggregate-all-rows-3 c = search needs
 few : (c : tie.After-struct-known) → c .before .before .before .before .args .s .«in_feat» / 256 ≤ 512
 few c = let t = c .before .before .before .before in omega (arith, fits _ _ _ _ _ (t .pre) .within .in-in)
 
-array-borrow-prefix-parts : tie.Need-array-borrow-prefix-parts
-array-borrow-prefix-parts c = few (c .before .before .before)
+array-borrow-prefix-dots : tie.Need-array-borrow-prefix-dots
+array-borrow-prefix-dots c = few (c .before .before .before)
 
 slice-aggregate-all-rows-4 : tie.Need-slice-aggregate-all-rows-4
 slice-aggregate-all-rows-4 c = sym (length-take-le (c .before .before .before .before .before .before .before .before .args .s .«in_feat» / 256) (replicate 512 nought) (rw length-replicate (few (c .before .before .before .before))))
@@ -50,7 +50,7 @@ rows-of-512-spec =
     slice-aggregate-all-rows
     slice-aggregate-all-rows-2
     slice-aggregate-all-rows-3
-    array-borrow-prefix-parts
+    array-borrow-prefix-dots
     slice-aggregate-all-rows-4
     all-rows-requires
     same-length

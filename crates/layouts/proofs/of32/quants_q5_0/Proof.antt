@@ -1,25 +1,21 @@
 -- `of32::quants_q5_0` meets its contract: in turn k the places k and k + 16 are filled. Assumes nothing.
 use mathlib.Core.Path.{_≡_, refl}
-use Prim.Native.Nat.{ℕ, _+_, _-_, _%_, _≤_, _<_}
+use Prim.Native.Nat.{_+_, _-_, _<_}
 use lib.IntN.{pos}
 use lib.ListN.{replicate}
 use Rattle.numbers.specs.Fields.{le32}
-use Rattle.numbers.proofs.Signed.{byteRead, byte-read}
-use Rattle.memory.proofs.Streams.{Done, done-none, done-more, done-all}
+use Rattle.numbers.proofs.Signed.{byte-read}
 use native.Mathlib.Omega.{arith}
 use borrow.Author.Needs.{needs}
 use Rattle.layouts.specs.Of32.{quant32}
 use Rattle.layouts.specs.declared.format.Format32.the-variants.{Q50}
-use Rattle.layouts.proofs.Two.{two, own-halves}
-use Rattle.layouts.proofs.Quants.{q50-low, q50-high}
+use Rattle.layouts.proofs.Two.{Halves, halves-none, halves-more, halves-all}
+use Rattle.layouts.proofs.Quants.{apart-low, apart-high, q50-at}
 use Rattle.layouts.proofs.of32.quants_q5_0.Statement.{statement}
 use Rattle.layouts.proofs.of32.quants_q5_0.Tie as tie
 
-abbrev turn : ℕ → ℕ
-turn i = i % 16
-
 abbrev Inv-loop : tie.InvT-loop
-Inv-loop block high q₀ k₀ q k = Done (quant32 Q50 block) (pos 0) turn 32 q k × (k ≤ 16)
+Inv-loop block high q₀ k₀ q k = Halves (quant32 Q50 block) (pos 0) q k
 
 abbrev μ-loop : tie.MeasureT-loop
 μ-loop block high q₀ k₀ q k = 16 - k
@@ -40,7 +36,7 @@ le-u32-requires : tie.Need-le-u32-requires Inv-loop μ-loop
 le-u32-requires c κs = search needs
 
 loop-holds : tie.Need-loop-holds Inv-loop μ-loop
-loop-holds c = (done-none (quant32 Q50 (c .before .before .before .before .before .before .args .block .now)) (pos 0) turn 32 (replicate 32 (pos 0)) refl, omega arith)
+loop-holds c = halves-none (quant32 Q50 (c .before .before .before .before .before .before .args .block .now)) (pos 0) (replicate 32 (pos 0)) refl
 
 add-b : tie.Need-add-b Inv-loop μ-loop
 add-b c = omega arith
@@ -90,19 +86,15 @@ loop-again c =
     let bs = m .before .before .before .before .before .before .before .args .block .now in
     let k = m .loop .k in
     let h : k < 16 = c .before .before .before .loop-test .taken in
-    let e : m .before .le-u32 .result ≡ le32 bs 2 = m .before .le-u32 .ensures in (
-      done-more (quant32 Q50 bs) (pos 0) turn 32 (m .loop .q) k (two k (byteRead (c .before .with-high-bit .result)) (k + 16) (byteRead (c .with-high-bit2 .result))) (m .loop .inv .0) (
-        byte-read (c .before .with-high-bit .ok) (rw e at (c .before .with-high-bit .ensures)) (q50-low bs k h),
-        (byte-read (c .with-high-bit2 .ok) (rw e at (c .with-high-bit2 .ensures)) (q50-high bs k h), tt),
-      )
-          (own-halves k (byteRead (c .before .with-high-bit .result)) (byteRead (c .with-high-bit2 .result))),
-      omega arith,
-    )
+    let e : m .before .le-u32 .result ≡ le32 bs 2 = m .before .le-u32 .ensures in
+    halves-more (quant32 Q50 bs) (pos 0) (m .loop .q) k _ _ h
+    (byte-read (c .before .with-high-bit .ok) (rw e at (c .before .with-high-bit .ensures)) (q50-at bs k _ (apart-low bs 6 k h)))
+    (byte-read (c .with-high-bit2 .ok) (rw e at (c .with-high-bit2 .ensures)) (q50-at bs (k + 16) _ (apart-high bs 6 k h))) (m .loop .inv)
 
 returns : tie.Need-returns Inv-loop μ-loop
 returns c =
     let l = c .before .loop in
-    done-all (quant32 Q50 (c .before .before .before .before .before .before .before .before .args .block .now)) (pos 0) turn 32 (l .q) (l .k) (l .inv .0) (λ i h. omega (arith, c .loop-test .left))
+    halves-all (quant32 Q50 (c .before .before .before .before .before .before .before .before .args .block .now)) (pos 0) (l .q) (l .k) (c .loop-test .left) (l .inv)
 
 pub quants-q5-0-spec : {M : Type 1} → statement M
 quants-q5-0-spec =

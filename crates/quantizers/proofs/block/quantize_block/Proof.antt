@@ -7,10 +7,12 @@ use Rattle.memory.specs.Lists.{table}
 use Rattle.memory.proofs.Filled.{part-length}
 use native.Mathlib.Omega.{arith}
 use borrow.Author.Needs.{needs}
-use Rattle.quantizers.specs.Blocks.{blockSize, byteAt}
+use Rattle.layouts.specs.Formats.{bytes32}
+use Rattle.layouts.proofs.Sizes.{least-32}
+use Rattle.quantizers.specs.Blocks.{formatOf, byteAt}
 use Rattle.quantizers.specs.declared.target.Target.{Target}
 use Rattle.quantizers.specs.declared.target.Target.the-variants.{Q40, Q80}
-use Rattle.quantizers.proofs.Bytes.{block-sizes, written, block-left}
+use Rattle.quantizers.proofs.Bytes.{written, block-left}
 use Rattle.quantizers.proofs.block.quantize_block.Statement.{statement}
 use Rattle.quantizers.proofs.block.quantize_block.Tie as tie
 
@@ -23,11 +25,11 @@ abbrev scaled : tie.After-stored-scale → List ℕ
 scaled m = let half = m .stored-scale .result in set (set (start m .args .out .now) 0 (half % 256)) 1 (half / 256)
 
 -- the same with the quants of the target u behind them: a block of that target
-behind : (m : tie.After-stored-scale) (u : Target) (size k : ℕ) (ys : List ℕ) → start m .args .target ≡ u → blockSize u ≡ size → size ≡ 2 + k
+behind : (m : tie.After-stored-scale) (u : Target) (size k : ℕ) (ys : List ℕ) → start m .args .target ≡ u → bytes32 (formatOf u) ≡ size → size ≡ 2 + k
     → ys ≡ table (written u (start m .args .x .now) (m .before .inverse-of .result)) k
     → (let a = start m .args in
     let left = take 2 (scaled m) ++ (ys ++ drop (size - 2) (drop 2 (scaled m))) in
-    (left ≡ table (byteAt (a .target) (a .x .now)) (blockSize (a .target))) × (length left ≡ length (a .out .now)))
+    (left ≡ table (byteAt (a .target) (a .x .now)) (bytes32 (formatOf (a .target)))) × (length left ≡ length (a .out .now)))
 behind m u size k ys e Z S Y =
     let a = start m .args in
     let scale = m .before .before .scale-of in
@@ -46,13 +48,13 @@ cast-out : tie.Need-cast-out
 cast-out c = omega arith
 
 slice-write-out : tie.Need-slice-write-out
-slice-write-out c = omega (arith, start c .pre .1, block-sizes (start c .args .target))
+slice-write-out c = omega (arith, start c .pre .1, least-32 (formatOf (start c .args .target)))
 
 cast-out-2 : tie.Need-cast-out-2
 cast-out-2 c = omega (arith, c .stored-scale .ok)
 
 slice-write-out-2 : tie.Need-slice-write-out-2
-slice-write-out-2 c = rw length-set (omega (arith, start c .pre .1, block-sizes (start c .args .target)))
+slice-write-out-2 c = rw length-set (omega (arith, start c .pre .1, least-32 (formatOf (start c .args .target))))
 
 enum-told : tie.Need-enum-told
 enum-told c = search needs
@@ -64,12 +66,12 @@ part-write-quants-q4-0-start : tie.Need-part-write-quants-q4-0-start
 part-write-quants-q4-0-start c = omega arith
 
 part-write-quants-q4-0-end : tie.Need-part-write-quants-q4-0-end
-part-write-quants-q4-0-end c = simp length-set (omega (arith, start (c .before .before) .pre .1 ∙ ap blockSize (c .enum-told .given .1)))
+part-write-quants-q4-0-end c = simp length-set (omega (arith, start (c .before .before) .pre .1 ∙ ap (λ (v : Target). bytes32 (formatOf v)) (c .enum-told .given .1)))
 
 write-quants-q4-0-requires : tie.Need-write-quants-q4-0-requires
 write-quants-q4-0-requires c κs =
     let m = c .before .before .before in
-    let size : length (start m .args .out .now) ≡ 18 = start m .pre .1 ∙ ap blockSize (c .before .enum-told .given .1) in
+    let size : length (start m .args .out .now) ≡ 18 = start m .pre .1 ∙ ap (λ (v : Target). bytes32 (formatOf v)) (c .before .enum-told .given .1) in
     (start m .pre .0, part-length (scaled m) 2 16 18 refl (simp length-set (omega arith)))
 
 enum-told-2 : tie.Need-enum-told-2
@@ -82,12 +84,12 @@ part-write-quants-q8-0-start : tie.Need-part-write-quants-q8-0-start
 part-write-quants-q8-0-start c = omega arith
 
 part-write-quants-q8-0-end : tie.Need-part-write-quants-q8-0-end
-part-write-quants-q8-0-end c = simp length-set (omega (arith, start (c .before .before) .pre .1 ∙ ap blockSize (c .enum-told2 .given .1)))
+part-write-quants-q8-0-end c = simp length-set (omega (arith, start (c .before .before) .pre .1 ∙ ap (λ (v : Target). bytes32 (formatOf v)) (c .enum-told2 .given .1)))
 
 write-quants-q8-0-requires : tie.Need-write-quants-q8-0-requires
 write-quants-q8-0-requires c κs =
     let m = c .before .before .before in
-    let size : length (start m .args .out .now) ≡ 34 = start m .pre .1 ∙ ap blockSize (c .before .enum-told2 .given .1) in
+    let size : length (start m .args .out .now) ≡ 34 = start m .pre .1 ∙ ap (λ (v : Target). bytes32 (formatOf v)) (c .before .enum-told2 .given .1) in
     (start m .pre .0, part-length (scaled m) 2 32 34 refl (simp length-set (omega arith)))
 
 same-length : tie.Need-same-length

@@ -14,20 +14,16 @@ largest-value-requires c κs = search needs
 enum-told-2 : tie.Need-enum-told-2
 enum-told-2 c = search needs
 
-largest-magnitude-requires : tie.Need-largest-magnitude-requires
-largest-magnitude-requires c κs = search needs
+scale-q8-requires : tie.Need-scale-q8-requires
+scale-q8-requires c κs = search needs
 
 returns : tie.Need-returns
 unfolding scaleOf neg ofBits
-returns c =
-    let xs = c .before .before .before .before .args .x .now in
-    rw (c .largest-value .ensures, c .before .before .before .before .pre, c .before .enum-told .given .1)
+returns c = rw (c .largest-value .ensures, c .before .before .before .before .pre, c .before .enum-told .given .1)
 
 returns-2 : tie.Need-returns-2
-unfolding scaleOf ofBits
-returns-2 c =
-    let xs = c .before .before .before .before .args .x .now in
-    rw (c .largest-magnitude .ensures, c .before .before .before .before .pre, c .before .enum-told2 .given .1)
+unfolding scaleOf
+returns-2 c = rw (c .scale-q8 .ensures, c .before .enum-told2 .given .1)
 
 pub scale-of-spec : {M : Type 1} → statement M
 scale-of-spec =
@@ -36,6 +32,6 @@ scale-of-spec =
     enum-told
     largest-value-requires
     enum-told-2
-    largest-magnitude-requires
+    scale-q8-requires
     returns
     returns-2)

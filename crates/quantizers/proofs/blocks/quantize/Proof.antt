@@ -1,29 +1,30 @@
 -- `blocks::quantize` meets its contract: a refusal, or every block quantised. Assumes nothing.
-use mathlib.Core.Path.{sym, ap, _∙_}
-use Prim.Native.Nat.{ℕ}
+use mathlib.Core.Path.{ap, _∙_}
 use mathlib.Core.List.{List}
-use lib.ListN.{length}
+use Prim.Native.Nat.{ℕ}
 use Rattle.refusals.specs.Said.{done}
-use Rattle.refusals.proofs.Laws.{carried-done, carried-refused}
+use Rattle.refusals.proofs.Laws.{check-passed, refused-out, done-out}
 use borrow.Author.Needs.{needs}
-use Rattle.quantizers.specs.Says.{quantizeNo, quantizeSays}
+use Rattle.quantizers.specs.Says.{quantizeSays}
 use Rattle.quantizers.proofs.Refused.{room-for-bytes}
 use Rattle.quantizers.proofs.blocks.quantize.Statement.{statement}
 use Rattle.quantizers.proofs.blocks.quantize.Tie as tie
 
-quantize-no-requires : tie.Need-quantize-no-requires
-quantize-no-requires c κs = search needs
+quantize-refusal-requires : tie.Need-quantize-refusal-requires
+quantize-refusal-requires c κs = search needs
+
+enum-known-checked : tie.Need-enum-known-checked
+enum-known-checked c = search needs
 
 returns : tie.Need-returns
 unfolding quantizeSays
-returns c =
-    let no = c .before .quantize-no in
-    rw (no .ensures) (sym (carried-refused (quantizeNo (c .before .before .before .before .args .target) (length (c .before .before .before .before .args .x .now)) (length (c .before .before .before .before .args .out .now))) _ (c .before .before .before .before .args .out .now) (rw (no .ensures) at (c .if1 .taken))))
+returns c = refused-out _ _ (c .before .before .before .quantize-refusal .ensures) (c .before .checked .given .1)
+
+enum-told : tie.Need-enum-told
+enum-told c = search needs
 
 quantize-blocks-requires : tie.Need-quantize-blocks-requires
-quantize-blocks-requires c κs =
-    let no = c .before .before .quantize-no in
-    room-for-bytes (c .before .before .before .before .before .args .target) (length (c .before .before .before .before .before .args .x .now)) (length (c .before .before .before .before .before .args .out .now)) (sym (no .ensures) ∙ c .before .if1 .left)
+quantize-blocks-requires c κs = room-for-bytes _ _ _ (check-passed (c .before .before .before .quantize-refusal .ensures) (c .before .enum-told .given .1))
 
 same-length : tie.Need-same-length
 same-length c = search needs
@@ -31,16 +32,17 @@ same-length c = search needs
 returns-2 : tie.Need-returns-2
 unfolding quantizeSays
 returns-2 c =
-    let no = c .before .before .before .before .before .quantize-no in
-    ap (λ (left : List ℕ). (done, left)) (c .before .before .quantize-blocks .ensures)
-    ∙ sym (carried-done (quantizeNo (c .before .before .before .before .before .before .before .before .args .target) (length (c .before .before .before .before .before .before .before .before .args .x .now)) (length (c .before .before .before .before .before .before .before .before .args .out .now))) _ (c .before .before .before .before .before .before .before .before .args .out .now) (sym (no .ensures) ∙ c .before .before .before .before .if1 .left))
+    let f = c .before .before .before .before in
+    ap (λ (left : List ℕ). (done, left)) (c .before .before .quantize-blocks .ensures) ∙ done-out _ _ (f .before .before .quantize-refusal .ensures) (f .enum-told .given .1)
 
 pub quantize-spec : {M : Type 1} → statement M
 quantize-spec =
     tie.close
     (tie.spec
-    quantize-no-requires
+    quantize-refusal-requires
+    enum-known-checked
     returns
+    enum-told
     quantize-blocks-requires
     same-length
     returns-2)

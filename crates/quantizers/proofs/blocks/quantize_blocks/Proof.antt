@@ -9,7 +9,8 @@ use Rattle.memory.proofs.Filled.{part-length}
 use Rattle.memory.proofs.Parts.{part-within, InParts, parts-none, parts-more, parts-done}
 use native.Mathlib.Omega.{arith}
 use borrow.Author.Needs.{needs}
-use Rattle.quantizers.specs.Blocks.{blockSize, byteAt}
+use Rattle.layouts.specs.Formats.{bytes32}
+use Rattle.quantizers.specs.Blocks.{formatOf, byteAt}
 use Rattle.quantizers.specs.Says.{packedAt}
 use Rattle.quantizers.proofs.Bytes.{placed}
 use Rattle.quantizers.proofs.blocks.quantize_blocks.Statement.{statement}
@@ -21,24 +22,31 @@ Inv-loop target x out₀ size count b₀ out b = InParts (packedAt target x) out
 abbrev μ-loop : tie.MeasureT-loop
 μ-loop target x out₀ size count b₀ out b = count - b
 
-block-size-requires : tie.Need-block-size-requires Inv-loop μ-loop
-block-size-requires c κs = search needs
+format-of-requires : tie.Need-format-of-requires Inv-loop μ-loop
+format-of-requires c κs = search needs
+
+block-bytes-requires : tie.Need-block-bytes-requires Inv-loop μ-loop
+block-bytes-requires c κs = search needs
+
+-- the size is that of the target's format
+size-is : (c : tie.After-block-bytes Inv-loop μ-loop) → c .block-bytes .result ≡ bytes32 (formatOf (c .before .before .before .before .args .target))
+size-is c = c .block-bytes .ensures ∙ ap bytes32 (c .before .format-of .ensures)
 
 loop-holds : tie.Need-loop-holds Inv-loop μ-loop
 loop-holds c =
-    let a = c .before .before .before .args in
-    parts-none (packedAt (a .target) (a .x .now)) (a .out .now) (λ k. k * c .block-size .result) _ (zero-mul _)
+    let a = c .before .before .before .before .args in
+    parts-none (packedAt (a .target) (a .x .now)) (a .out .now) (λ k. k * c .block-bytes .result) _ (zero-mul _)
 
 -- block b's readings lie within the readings, its bytes lie within the output, and there are fewer blocks than readings
 facts : (c : tie.In-loop Inv-loop μ-loop)
     → (let b = c .before .loop .b in
-    let size = c .before .before .block-size .result in
-    let t = c .before .before .before .before .before in
+    let size = c .before .before .block-bytes .result in
+    let t = c .before .before .before .before .before .before in
     (b * 32 + 32 ≤ length (t .args .x .now)) × (b * size + size ≤ length (t .args .out .now)) × (b < length (t .args .x .now)))
 facts c =
-    let t = c .before .before .before .before .before in
-    let size = c .before .before .block-size in
-    part-within (c .before .loop .b) 32 (size .result) (length (t .args .x .now)) (length (t .args .out .now)) (c .loop-test .taken) (rw (size .ensures) (t .pre))
+    let t = c .before .before .before .before .before .before in
+    let size = c .before .before .block-bytes in
+    part-within (c .before .loop .b) 32 (size .result) (length (t .args .x .now)) (length (t .args .out .now)) (c .loop-test .taken) (rw (size-is (c .before .before)) (t .pre))
 
 mul-from : tie.Need-mul-from Inv-loop μ-loop
 mul-from c = omega (arith, facts c)
@@ -77,11 +85,11 @@ quantize-block-requires : tie.Need-quantize-block-requires Inv-loop μ-loop
 quantize-block-requires c κs =
     let d = c .before .before in
     let l = d .before .loop in
-    let size = d .before .before .block-size in
+    let size = d .before .before .block-bytes in
     let k = facts d in
     let room : l .b * size .result + size .result ≤ length (l .out) = omega (arith, k .1, l .inv .2) in (
-      part-length (d .before .before .before .before .before .args .x .now) (l .b * 32) 32 (l .b * 32 + 32) refl (k .0),
-      part-length (l .out) (l .b * size .result) (size .result) (l .b * size .result + size .result) refl room ∙ size .ensures,
+      part-length (d .before .before .before .before .before .before .args .x .now) (l .b * 32) 32 (l .b * 32 + 32) refl (k .0),
+      part-length (l .out) (l .b * size .result) (size .result) (l .b * size .result + size .result) refl room ∙ size-is (d .before .before),
     )
 
 add-b : tie.Need-add-b Inv-loop μ-loop
@@ -94,11 +102,11 @@ loop-again : tie.Need-loop-again Inv-loop μ-loop
 loop-again c =
     let d = c .before .before .before .before .before in
     let l = d .before .loop in
-    let t = d .before .before .before .before .before in
+    let t = d .before .before .before .before .before .before in
     let u = t .args .target in
     let xs = t .args .x .now in
-    let size = d .before .before .block-size .result in
-    let S : size ≡ blockSize u = d .before .before .block-size .ensures in
+    let size = d .before .before .block-bytes .result in
+    let S = size-is (d .before .before) in
     let b = l .b in
     let g = byteAt u (take (b * 32 + 32 - b * 32) (drop (b * 32) xs)) in
     parts-more (packedAt u xs) (t .args .out .now) (λ k. k * size) (length xs / 32) g (l .out) _ b size (d .loop-test .taken) (rw add-one (suc-mul b size)) (facts d .1) (c .before .before .quantize-block .ensures ∙ ap (table g) (sym S)) (λ i h. placed u xs b i size S h) (l .inv)
@@ -109,11 +117,11 @@ same-length c = c .before .loop .inv .2
 returns : tie.Need-returns Inv-loop μ-loop
 returns c =
     let l = c .before .loop in
-    let t = c .before .before .before .before .before in
+    let t = c .before .before .before .before .before .before in
     let u = t .args .target in
     let xs = t .args .x .now in
-    let size = c .before .before .block-size in
-    parts-done (packedAt u xs) (t .args .out .now) (λ k. k * size .result) (length xs / 32) (l .out) (l .b) (c .loop-test .left) (l .inv) ∙ ap (filled (packedAt u xs) (t .args .out .now)) (rw (size .ensures))
+    let size = c .before .before .block-bytes in
+    parts-done (packedAt u xs) (t .args .out .now) (λ k. k * size .result) (length xs / 32) (l .out) (l .b) (c .loop-test .left) (l .inv) ∙ ap (filled (packedAt u xs) (t .args .out .now)) (rw (size-is (c .before .before)))
 
 pub quantize-blocks-spec : {M : Type 1} → statement M
 quantize-blocks-spec =
@@ -121,7 +129,8 @@ quantize-blocks-spec =
     (tie.spec
     Inv-loop
     μ-loop
-    block-size-requires
+    format-of-requires
+    block-bytes-requires
     loop-holds
     mul-from
     add-to

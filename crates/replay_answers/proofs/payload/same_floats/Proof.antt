@@ -7,8 +7,8 @@ use lib.ListN.{length, getD}
 use lib.Ieee.{nan, binary32, ofBits}
 use borrow.Author.Needs.{needs}
 use borrow.Author.Tests.{not-true, not-false}
-use Rattle.dots_activation.specs.Whole.{every}
-use Rattle.dots_activation.proofs.Tests.{every-none, every-more, every-not}
+use Rattle.memory.specs.Lists.{every}
+use Rattle.memory.proofs.Every.{every-none, every-more, every-not}
 use Rattle.replay_answers.specs.Payload.{floatAt}
 use Rattle.replay_answers.specs.Same.{sameBits, sameFloatAt, sameFloats}
 use Rattle.replay_answers.proofs.payload.same_floats.Statement.{statement}

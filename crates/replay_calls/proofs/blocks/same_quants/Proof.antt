@@ -5,8 +5,10 @@ use Prim.Native.Nat.{_-_, _≤_}
 use mir.Syntax.{w8}
 use mir.Val.{ofZ, toZ}
 use Rattle.numbers.proofs.Signed.{read-is}
-use Rattle.dots_activation.specs.Whole.{elem, eqZ, every}
-use Rattle.dots_activation.proofs.Tests.{eqZ-same, eqZ-not, every-none, every-more, every-not}
+use Rattle.memory.specs.Lists.{every}
+use Rattle.dots_activation.specs.Whole.{elem, eqZ}
+use Rattle.memory.proofs.Every.{every-none, every-more, every-not}
+use Rattle.dots_activation.proofs.Tests.{eqZ-same, eqZ-not}
 use native.Mathlib.Omega.{arith}
 use Rattle.replay_calls.proofs.blocks.same_quants.Statement.{statement}
 use Rattle.replay_calls.proofs.blocks.same_quants.Tie as tie

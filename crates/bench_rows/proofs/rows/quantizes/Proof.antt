@@ -1,0 +1,55 @@
+-- `rows::quantizes` meets its contract. Assumes nothing.
+use mathlib.Core.Path.{ap, _∙_}
+use mathlib.Core.List.{[], _∷_}
+use lib.Ieee.{Float, binary32, ofBits}
+use borrow.Author.Needs.{needs}
+use Rattle.numbers.specs.Steps.{nought}
+use Rattle.dots_activation.specs.Blocks.{quantized}
+use Rattle.bench_rows.proofs.Judged.{quantised}
+use Rattle.bench_rows.proofs.rows.quantizes.Statement.{statement}
+use Rattle.bench_rows.proofs.rows.quantizes.Tie as tie
+
+of-bits-requires : tie.Need-of-bits-requires
+of-bits-requires c κs = search needs
+
+array-write-readings : tie.Need-array-write-readings
+array-write-readings c = search needs
+
+of-bits-requires-2 : tie.Need-of-bits-requires-2
+of-bits-requires-2 c κs = search needs
+
+array-write-readings-2 : tie.Need-array-write-readings-2
+array-write-readings-2 c = search needs
+
+slice-aggregate-quantize-block-q8 : tie.Need-slice-aggregate-quantize-block-q8
+slice-aggregate-quantize-block-q8 c = search needs
+
+quantize-block-q8-requires : tie.Need-quantize-block-q8-requires
+quantize-block-q8-requires c κs = search needs
+
+block-is-requires : tie.Need-block-is-requires
+block-is-requires c κs = search needs
+
+returns : tie.Need-returns
+returns c =
+    let q = c .before .before in
+    let y = q .before .before in
+    let x = y .before in
+    let a = x .before .args in
+    let e = q .quantize-block-q8 .ensures
+    ∙ ap (λ (v : Float). quantized (v ∷ y .of-bits2 .result ∷ nought ∷ [])) (x .of-bits .ensures)
+    ∙ ap (λ (v : Float). quantized (ofBits binary32 (a .x) ∷ v ∷ nought ∷ [])) (y .of-bits2 .ensures) in
+    c .block-is .ensures ∙ quantised (a .x) (a .y) (a .inverse) (a .a) (a .b) (a .c) (q .quantize-block-q8 .result) e
+
+pub quantizes-spec : {M : Type 1} → statement M
+quantizes-spec =
+    tie.close
+    (tie.spec
+    of-bits-requires
+    array-write-readings
+    of-bits-requires-2
+    array-write-readings-2
+    slice-aggregate-quantize-block-q8
+    quantize-block-q8-requires
+    block-is-requires
+    returns)

@@ -1,0 +1,3 @@
+-- Document 01's bench card, and the program's rows.
+pub mod Card
+pub mod Rows

@@ -1,0 +1,122 @@
+-- `k::decode_runs` meets its contract: in turn e the run of 16 from 16 e on is filled. Assumes nothing.
+use mathlib.Core.Path.{refl, _∙_}
+use Prim.Native.Nat.{ℕ, _+_, _-_, _*_}
+use mathlib.Core.List.{List}
+use lib.IntN.{ℤ, pos}
+use lib.ListN.{getD}
+use lib.Ieee.{Float}
+use native.Mathlib.Omega.{arith}
+use borrow.Author.Needs.{needs}
+use Rattle.layouts.specs.K.{valueOf}
+use Rattle.layouts.specs.declared.format.FormatK.the-variants.{Q6K}
+use Rattle.memory.proofs.Parts.{InParts, parts-none, parts-more}
+use Rattle.decoded_blocks.proofs.Runs.{run-lengths, runs-done, run-of-16}
+use Rattle.decoded_blocks.proofs.k.decode_runs.Statement.{statement}
+use Rattle.decoded_blocks.proofs.k.decode_runs.Tie as tie
+
+abbrev values : List ℕ → List ℤ → ℕ → Float
+values bs q i = valueOf Q6K bs i (getD q i (pos 0))
+
+abbrev Inv-loop : tie.InvT-loop
+Inv-loop block q out₀ scales e₀ out e = InParts (values block q) out₀ (λ r. 16 * r) 16 out e
+
+abbrev μ-loop : tie.MeasureT-loop
+μ-loop block q out₀ scales e₀ out e = 16 - e
+
+scales-q6k-requires : tie.Need-scales-q6k-requires Inv-loop μ-loop
+scales-q6k-requires c κs = search needs
+
+loop-holds : tie.Need-loop-holds Inv-loop μ-loop
+loop-holds c = let a = c .before .before .before .args in parts-none (values (a .block .now) (a .q .now)) (a .out .now) (λ r. 16 * r) 16 refl
+
+mul-at : tie.Need-mul-at Inv-loop μ-loop
+mul-at c = omega arith
+
+add-end : tie.Need-add-end Inv-loop μ-loop
+add-end c = omega arith
+
+sub-scale-run : tie.Need-sub-scale-run Inv-loop μ-loop
+sub-scale-run c = omega arith
+
+part-scale-run-start : tie.Need-part-scale-run-start Inv-loop μ-loop
+part-scale-run-start c = omega arith
+
+part-scale-run-end : tie.Need-part-scale-run-end Inv-loop μ-loop
+part-scale-run-end c = omega arith
+
+mul-scale-run : tie.Need-mul-scale-run Inv-loop μ-loop
+mul-scale-run c = omega arith
+
+array-read-scale-run : tie.Need-array-read-scale-run Inv-loop μ-loop
+array-read-scale-run c = omega arith
+
+mul-scale-run-2 : tie.Need-mul-scale-run-2 Inv-loop μ-loop
+mul-scale-run-2 c = omega arith
+
+sub-scale-run-2 : tie.Need-sub-scale-run-2 Inv-loop μ-loop
+sub-scale-run-2 c = omega arith
+
+part-scale-run-start-2 : tie.Need-part-scale-run-start-2 Inv-loop μ-loop
+part-scale-run-start-2 c = omega arith
+
+part-scale-run-end-2 : tie.Need-part-scale-run-end-2 Inv-loop μ-loop
+part-scale-run-end-2 c = omega arith
+
+scale-run-requires : tie.Need-scale-run-requires Inv-loop μ-loop
+scale-run-requires c κs =
+    let l = c .before .before .before .loop in
+    let t = c .before .before .before .before .before .before .before in
+    run-lengths (t .args .q .now) (l .out) 16 (l .e) (t .pre .1) (l .inv .2 ∙ t .pre .2) (omega arith)
+
+add-e : tie.Need-add-e Inv-loop μ-loop
+add-e c = omega arith
+
+loop-less : tie.Need-loop-less Inv-loop μ-loop
+loop-less c = omega arith
+
+loop-again : tie.Need-loop-again Inv-loop μ-loop
+loop-again c =
+    let f = c .before .before .before .before .before .before .before in
+    let l = c .before .before .before .before .before .before .loop in
+    let h = c .before .before .before .before .before .loop-test .taken in
+    let t = f .before .before .before in
+    let bs = t .args .block .now in
+    let q = t .args .q .now in
+    let e = l .e in
+    let s = f .scales-q6k in
+    parts-more (values bs q) (t .args .out .now) (λ r. 16 * r) 16 _ (l .out) _ e 16 h (omega arith) (omega (arith, t .pre .2)) (c .before .before .scale-run .ensures) (λ i g. run-of-16 bs e i (16 * e + 16 - 16 * e) (omega arith) h g (s .result) q (s .ensures)) (l .inv)
+
+same-length : tie.Need-same-length Inv-loop μ-loop
+same-length c = c .before .loop .inv .2
+
+returns : tie.Need-returns Inv-loop μ-loop
+returns c =
+    let l = c .before .loop in
+    let t = c .before .before .before .before .before in
+    runs-done (values (t .args .block .now) (t .args .q .now)) (t .args .out .now) (l .out) 16 (l .e) (t .pre .2) (omega arith) (l .inv)
+
+pub decode-runs-spec : {M : Type 1} → statement M
+decode-runs-spec =
+    tie.close
+    (tie.spec
+    Inv-loop
+    μ-loop
+    scales-q6k-requires
+    loop-holds
+    mul-at
+    add-end
+    sub-scale-run
+    part-scale-run-start
+    part-scale-run-end
+    mul-scale-run
+    array-read-scale-run
+    mul-scale-run-2
+    sub-scale-run-2
+    part-scale-run-start-2
+    part-scale-run-end-2
+    scale-run-requires
+    add-e
+    loop-less
+    loop-again
+    same-length
+    returns)

@@ -1,2 +1,0 @@
--- A row of whole blocks, and the blocks that a row starts and ends in.
-pub mod WholeRows

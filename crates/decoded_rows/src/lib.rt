@@ -1,4 +1,0 @@
-// A row of weights, decoded.
-mod decoded_row;
-
-pub use decoded_row::decode_row;

@@ -1,0 +1,67 @@
+-- Lanes that grow by runs of terms, and a K block's terms in its runs. Assumes nothing.
+use mathlib.Core.Path.{_≡_, sym, ap, _∙_}
+use Prim.Native.Nat.{ℕ, _+_, _*_, _/_, _%_, _≤_, _<_}
+use native.Mathlib.Omega.{arith}
+use mathlib.Core.List.{List}
+use lib.IntN.{ℤ, pos}
+use lib.ListN.{length, getD}
+use lib.Ieee.{Float, nan, binary32, mul}
+use Rattle.memory.specs.Lists.{table, part}
+use Rattle.memory.proofs.Filled.{getD-table, part-at}
+use Rattle.layouts.specs.Formats.{bytesK}
+use Rattle.layouts.specs.K.{quantK, dScale, dminMinimum, valueOf}
+use Rattle.layouts.specs.declared.format.FormatK.{FormatK}
+use Rattle.layouts.specs.declared.format.FormatK.the-variants.{Q4K, Q6K}
+use Rattle.decoded_blocks.proofs.Runs.{run-of-16}
+use Rattle.sums_lanes.specs.Lanes.{lanesFrom}
+use Rattle.sums_lanes.proofs.LaneLaws.{lanes-cong, lanes-block}
+use Rattle.dots_fused_chunk.specs.Terms.{terms}
+use Rattle.dots_fused_chunk.specs.Inner.{blockTerms, subBlockTerms, runTerms}
+use Rattle.dots_fused_chunk.proofs.Rows.{one-block}
+
+-- k terms more, after m of them, a multiple of 8: q has them, and p, the whole's terms, has them from m on
+pub run-more : (l out next : List Float) (p q : ℕ → Float) (m k t : ℕ) → m % 8 ≡ 0 → m + k ≡ t → ((i : ℕ) → i < k → q i ≡ p (m + i)) → next ≡ lanesFrom out q k → out ≡ lanesFrom l p m
+    → next ≡ lanesFrom l p t
+run-more l out next p q m k t h s e n o = n ∙ lanes-block l out p q m k h e o ∙ ap (lanesFrom l p) s
+
+-- ---- count runs of k terms: after e of them the lanes are out
+
+abbrev pub Grown : List Float → (ℕ → Float) → ℕ → ℕ → List Float → ℕ → Type 0
+Grown l p k count out e = (e ≤ count) × (out ≡ lanesFrom l p (k * e))
+
+pub grown-more : (l out next : List Float) (p q : ℕ → Float) (k count e : ℕ) → k * e % 8 ≡ 0 → k * e + k ≡ k * (e + 1) → e < count → ((i : ℕ) → i < k → q i ≡ p (k * e + i)) → next ≡ lanesFrom out q k
+    → Grown l p k count out e → Grown l p k count next (e + 1)
+grown-more l out next p q k count e h s u t n g = (omega arith, run-more l out next p q (k * e) k (k * (e + 1)) h s t n (g .1))
+
+pub grown-done : (l out : List Float) (p : ℕ → Float) (k count e : ℕ) → count ≤ e → Grown l p k count out e → out ≡ lanesFrom l p (k * count)
+grown-done l out p k count e h g = let d : e ≡ count = omega arith in rw d at (g .1)
+
+-- ---- the terms of parts are those of the wholes from the parts' start on
+
+pub sub-block-part : (x : List Float) (q : List ℕ) (d m : Float) (s k i : ℕ) → i < k → subBlockTerms (part x s k) (part q s k) d m i ≡ subBlockTerms x q d m (s + i)
+sub-block-part x q d m s k i h = rw (part-at x s k i nan h, part-at q s k i 0 h)
+
+pub run-part : (x : List Float) (q : List ℤ) (d : Float) (s k i : ℕ) → i < k → runTerms (part x s k) (part q s k) d i ≡ runTerms x q d (s + i)
+run-part x q d s k i h = rw (part-at x s k i nan h, part-at q s k i (pos 0) h)
+
+-- ---- a block's terms
+
+module _ (x : List Float) (bs : List ℕ) where
+  -- sub-block j of eight
+  pub sub-block-terms : (j k i : ℕ) (s m : List Float) (q : List ℕ) → k ≡ 32 → j < 8 → i < k → s ≡ table (dScale Q4K bs) 8 → m ≡ table (dminMinimum bs) 8
+      → subBlockTerms (part x (32 * j) k) (part q (32 * j) k) (getD s j nan) (getD m j nan) i ≡ blockTerms Q4K x bs (λ n. pos (getD q n 0)) (32 * j + i)
+  sub-block-terms j k i s m q K u h S M =
+      let at : (32 * j + i) / 32 ≡ j = omega arith in
+      rw (part-at x (32 * j) k i nan h, part-at q (32 * j) k i 0 h, S, M, getD-table (dScale Q4K bs) 8 j nan u, getD-table (dminMinimum bs) 8 j nan u, at)
+
+  -- run e of sixteen
+  pub run-terms : (e k i : ℕ) (s : List Float) (q : List ℤ) → k ≡ 16 → e < 16 → i < k → s ≡ table (dScale Q6K bs) 16
+      → runTerms (part x (16 * e) k) (part q (16 * e) k) (getD s e nan) i ≡ blockTerms Q6K x bs (λ n. getD q n (pos 0)) (16 * e + i)
+  run-terms e k i s q K u h S = rw (part-at x (16 * e) k i nan h, run-of-16 bs e i k K u (omega arith) s q S)
+
+  -- all of them, of whole numbers that were laid out: the block's own
+  pub laid-out : {A : Type 0} (f : FormatK) (l : List Float) (whole : A → ℤ) (p : ℕ → A) (q : List A) (z : A) → length bs ≡ bytesK f → q ≡ table p 256 → ((i : ℕ) → whole (p i) ≡ quantK f bs i)
+      → lanesFrom l (blockTerms f x bs (λ i. whole (getD q i z))) 256 ≡ lanesFrom l (terms f x bs) 256
+  laid-out {A} f l whole p q z b Q W =
+      lanes-cong l _ _ 256
+      (λ i h. ap (mul binary32 (getD x i nan)) (ap (λ (a : A). valueOf f bs i (whole a)) (rw Q (getD-table p 256 i z h)) ∙ ap (valueOf f bs i) (W i) ∙ sym (one-block f bs i b h)))

@@ -1,0 +1,46 @@
+-- `dot::dot_with_minimums` meets its contract. Assumes nothing.
+use mathlib.Core.Path.{_∙_}
+use mir.Syntax.{w32}
+use Rattle.numbers.proofs.Signed.{read-is}
+use Rattle.dots_integer.proofs.Dots.{scaled-is, less-is}
+use borrow.Author.Needs.{needs}
+use Rattle.dots_integer.proofs.dot.dot_with_minimums.Statement.{statement}
+use Rattle.dots_integer.proofs.dot.dot_with_minimums.Tie as tie
+
+sum-by-sub-blocks-requires : tie.Need-sum-by-sub-blocks-requires
+sum-by-sub-blocks-requires c κs = search needs
+
+whole-to-f32-requires : tie.Need-whole-to-f32-requires
+whole-to-f32-requires c κs = search needs
+
+minimum-sum-requires : tie.Need-minimum-sum-requires
+minimum-sum-requires c κs = search needs
+
+whole-to-f32-requires-2 : tie.Need-whole-to-f32-requires-2
+whole-to-f32-requires-2 c κs = search needs
+
+half-at-requires : tie.Need-half-at-requires
+half-at-requires c κs = search needs
+
+half-at-requires-2 : tie.Need-half-at-requires-2
+half-at-requires-2 c κs = search needs
+
+returns : tie.Need-returns
+returns c =
+    let m = c .before .before in
+    let a = m .before .before in
+    let dx = a .before .before .before .args .d in
+    less-is (scaled-is dx (c .before .half-at .ensures) (a .whole-to-f32 .ensures) (read-is w32 _ (a .before .sum-by-sub-blocks .ok) ∙ a .before .sum-by-sub-blocks .ensures))
+    (scaled-is dx (c .half-at2 .ensures) (m .whole-to-f322 .ensures) (read-is w32 _ (m .before .minimum-sum .ok) ∙ m .before .minimum-sum .ensures))
+
+pub dot-with-minimums-spec : {M : Type 1} → statement M
+dot-with-minimums-spec =
+    tie.close
+    (tie.spec
+    sum-by-sub-blocks-requires
+    whole-to-f32-requires
+    minimum-sum-requires
+    whole-to-f32-requires-2
+    half-at-requires
+    half-at-requires-2
+    returns)

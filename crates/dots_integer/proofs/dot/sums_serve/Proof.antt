@@ -1,0 +1,30 @@
+-- `dot::sums_serve` meets its contract: each format its own. Assumes nothing.
+use mathlib.Core.Path.{sym, ap, _∙_}
+use mathlib.Core.Bool.{false≢true}
+use borrow.Author.Needs.{needs}
+use Rattle.layouts.specs.declared.format.FormatK.{FormatK}
+use Rattle.dots_integer.specs.Dots.{hasMinimums, sumsServe}
+use Rattle.dots_integer.proofs.dot.sums_serve.Statement.{statement}
+use Rattle.dots_integer.proofs.dot.sums_serve.Tie as tie
+
+enum-told : tie.Need-enum-told
+enum-told c = search needs
+
+sums-right-requires : tie.Need-sums-right-requires
+sums-right-requires c κs = search needs
+
+enum-told-2 : tie.Need-enum-told-2
+enum-told-2 c = search needs
+
+returns : tie.Need-returns
+returns c =
+    let r = c .sums-right .ensures in
+    (r .0 ∙ ap (λ (f : FormatK). sumsServe f (c .before .before .before .args .xq)) (sym (c .before .enum-told .given .1)), λ h _. r .1 h)
+
+returns-2 : tie.Need-returns-2
+returns-2 c =
+    let e = sym (c .enum-told2 .given .1) in
+    (ap (λ (f : FormatK). sumsServe f (c .before .before .args .xq)) e, λ _ h. absurd (false≢true (ap hasMinimums e ∙ h)))
+
+pub sums-serve-spec : {M : Type 1} → statement M
+sums-serve-spec = tie.close (tie.spec enum-told sums-right-requires enum-told-2 returns returns-2)

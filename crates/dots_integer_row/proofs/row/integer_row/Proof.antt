@@ -1,0 +1,167 @@
+-- `row::integer_row` meets its contract: one block's dot a turn. Assumes nothing.
+use mathlib.Core.Path.{refl, sym, subst, _∙_}
+use Prim.Native.Nat.{_+_, _-_, _*_, _≤_}
+use native.Mathlib.Omega.{arith}
+use lib.ListN.{length}
+use lib.Seq.{length-take-le}
+use Rattle.memory.proofs.Filled.{part-length}
+use Rattle.memory.proofs.Parts.{within}
+use Rattle.dots_activation.specs.Blocks.{SmallSums}
+use Rattle.dots_activation.specs.declared.block.Q8Block.{Q8Block}
+use Rattle.dots_integer_row.specs.Rows.{blocksIn}
+use Rattle.dots_integer.proofs.Bounds.{small-sums}
+use Rattle.dots_integer_row.proofs.Rows.{block-is, Dots, dots-start, dots-more, dots-met}
+use Rattle.dots_integer_row.proofs.row.integer_row.Statement.{statement}
+use Rattle.dots_integer_row.proofs.row.integer_row.Tie as tie
+
+abbrev Inv-loop : tie.InvT-loop
+Inv-loop format x w n size blocks dots₀ b₀ dots b = Dots format x w n dots₀ dots b
+
+abbrev μ-loop : tie.MeasureT-loop
+μ-loop format x w n size blocks dots₀ b₀ dots b = blocksIn n - b
+
+block-bytes-requires : tie.Need-block-bytes-requires Inv-loop μ-loop
+block-bytes-requires c κs = omega arith
+
+blocks-in-requires : tie.Need-blocks-in-requires Inv-loop μ-loop
+blocks-in-requires c κs = omega arith
+
+loop-holds : tie.Need-loop-holds Inv-loop μ-loop
+loop-holds c = dots-start _ _ _ _ _ refl
+
+mul-s : tie.Need-mul-s Inv-loop μ-loop
+mul-s c = omega arith
+
+block-end-requires : tie.Need-block-end-requires Inv-loop μ-loop
+block-end-requires c κs = omega arith
+
+-- block b lies within the row
+inside : (c : tie.After-block-end Inv-loop μ-loop)
+    → (let l = c .before .before in
+    let size = l .before .before .block-bytes .result in
+    l .loop .b * size + size ≤ length (l .before .before .before .before .before .args .w .now))
+inside c =
+    let l = c .before .before in
+    let r = l .before .before .block-bytes in
+    let s = l .before .before .before .before .before in
+    let room : blocksIn (s .args .n) * r .result ≤ length (s .args .w .now) = rw (r .ensures) (s .pre .2) in
+    within (l .loop .b) (r .result) (blocksIn (s .args .n)) (length (s .args .w .now)) (omega arith) room
+
+mul-from : tie.Need-mul-from Inv-loop μ-loop
+mul-from c = omega (arith, inside c)
+
+add-to : tie.Need-add-to Inv-loop μ-loop
+add-to c = omega (arith, inside c)
+
+sub-block-dot-below : tie.Need-sub-block-dot-below Inv-loop μ-loop
+sub-block-dot-below c = omega (arith, inside c)
+
+part-block-dot-below-start : tie.Need-part-block-dot-below-start Inv-loop μ-loop
+part-block-dot-below-start c = omega (arith, inside c)
+
+part-block-dot-below-end : tie.Need-part-block-dot-below-end Inv-loop μ-loop
+part-block-dot-below-end c = omega (arith, inside c)
+
+mul-quantized-block : tie.Need-mul-quantized-block Inv-loop μ-loop
+mul-quantized-block c = omega arith
+
+sub-quantized-block : tie.Need-sub-quantized-block Inv-loop μ-loop
+sub-quantized-block c = omega arith
+
+part-quantized-block-start : tie.Need-part-quantized-block-start Inv-loop μ-loop
+part-quantized-block-start c = omega arith
+
+part-quantized-block-end : tie.Need-part-quantized-block-end Inv-loop μ-loop
+part-quantized-block-end c = omega arith
+
+quantized-block-requires : tie.Need-quantized-block-requires Inv-loop μ-loop
+quantized-block-requires c κs =
+    let b = c .before .before in
+    let t = b .before .before in
+    let s = 256 * t .loop .b in
+    omega (arith, part-length (t .before .before .before .before .before .args .x .now) s (b .block-end .result - s) (b .block-end .result) (omega arith) (omega arith))
+
+sub-block-dot-below-2 : tie.Need-sub-block-dot-below-2 Inv-loop μ-loop
+sub-block-dot-below-2 c = omega arith
+
+block-dot-below-requires : tie.Need-block-dot-below-requires Inv-loop μ-loop
+block-dot-below-requires c κs =
+    let e = c .before .before .before in
+    let t = e .before .before in
+    let size = t .before .before .block-bytes in
+    let a = t .before .before .before .before .before .args in
+    let from = t .loop .b * size .result in
+    (part-length (a .w .now) from (size .result) (from + size .result) refl (inside e) ∙ size .ensures, λ _. subst (λ (b : Q8Block). SmallSums (b .bsums)) (sym (c .quantized-block .ensures)) (small-sums _), omega arith)
+
+mul-dots : tie.Need-mul-dots Inv-loop μ-loop
+mul-dots c = omega arith
+
+array-write-dots : tie.Need-array-write-dots Inv-loop μ-loop
+array-write-dots c = omega arith
+
+add-b : tie.Need-add-b Inv-loop μ-loop
+add-b c = omega arith
+
+loop-less : tie.Need-loop-less Inv-loop μ-loop
+loop-less c = omega arith
+
+loop-again : tie.Need-loop-again Inv-loop μ-loop
+loop-again c =
+    let q = c .before .quantized-block in
+    let e = c .before .before .before .before .block-end in
+    let t = c .before .before .before .before .before .before in
+    let size = t .before .before .block-bytes in
+    let a = t .before .before .before .before .before .args in
+    let v = c .block-dot-below .ensures ∙ block-is (a .format) (a .x .now) (a .w .now) (a .n) (t .loop .b) (e .result) (size .result) (q .result) (size .ensures) (e .ensures .0) (q .ensures) in
+    dots-more (a .format) (a .x .now) (a .w .now) (a .n) _ (t .loop .dots) (t .loop .b) _ refl (omega arith) (omega arith) v (t .loop .inv)
+
+array-borrow-prefix-dots : tie.Need-array-borrow-prefix-dots Inv-loop μ-loop
+array-borrow-prefix-dots c = omega arith
+
+slice-aggregate-canonical-combine : tie.Need-slice-aggregate-canonical-combine Inv-loop μ-loop
+slice-aggregate-canonical-combine c =
+    let b = c .before .before in
+    sym (length-take-le (b .before .blocks-in .result) (b .loop .dots) (omega arith))
+
+canonical-combine-requires : tie.Need-canonical-combine-requires Inv-loop μ-loop
+canonical-combine-requires c κs = omega arith
+
+returns : tie.Need-returns Inv-loop μ-loop
+returns c =
+    let b = c .before .before .before .before in
+    let a = b .before .before .before .before .before .args in
+    let m = b .before .blocks-in in
+    dots-met (a .format) (a .x .now) (a .w .now) (a .n) _ (b .loop .dots) _ (b .loop .b) (m .result) _ (omega arith) (m .ensures) (c .before .canonical-combine .ensures) (b .loop .inv)
+
+pub integer-row-spec : {M : Type 1} → statement M
+integer-row-spec =
+    tie.close
+    (tie.spec
+    Inv-loop
+    μ-loop
+    block-bytes-requires
+    blocks-in-requires
+    loop-holds
+    mul-s
+    block-end-requires
+    mul-from
+    add-to
+    sub-block-dot-below
+    part-block-dot-below-start
+    part-block-dot-below-end
+    mul-quantized-block
+    sub-quantized-block
+    part-quantized-block-start
+    part-quantized-block-end
+    quantized-block-requires
+    sub-block-dot-below-2
+    block-dot-below-requires
+    mul-dots
+    array-write-dots
+    add-b
+    loop-less
+    loop-again
+    array-borrow-prefix-dots
+    slice-aggregate-canonical-combine
+    canonical-combine-requires
+    returns)
