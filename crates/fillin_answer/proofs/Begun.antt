@@ -2,16 +2,15 @@
 use Prim.Native.Nat.{_+_}
 use mathlib.Core.Path.{_≡_, refl, sym, subst}
 use lib.Dec.{lit≤}
-use Rattle.refusals.specs.Refusals.{given}
-use Rattle.layouts.specs.Formats.{formatOf}
-use Rattle.stepped_shape.specs.Layer.{layerRowBytes, weightNeed}
-use Rattle.stepped_shape.specs.Refusals.{shapeNo}
+use Rattle.layouts.specs.Formats.{formatNamed}
+use Rattle.layouts.specs.declared.format.FormatK.the-variants.{Q4K}
+use Rattle.fillin_window.specs.Windows.{Sound}
 use Rattle.fillin_answer.specs.declared.state.State.{State}
-use Rattle.fillin_answer.specs.Kept.{Sound, begun}
+use Rattle.fillin_answer.specs.Kept.{begun}
 
-pub begun-held : Sound begun
-unfolding given formatOf layerRowBytes weightNeed shapeNo
-begun-held = record { shape = refl; inputs = lit≤ tt; outputs = lit≤ tt; weighed = refl }
+begun-sound : Sound (begun .layer) (begun .«weight_bytes»)
+unfolding formatNamed
+begun-sound = record { known = Q4K; named = refl; inputs = lit≤ tt; blocks = refl; outputs = lit≤ tt; weighed = refl }
 
-pub begins : (st : State) → st ≡ begun → Sound st × (st .offset ≡ 0) × (st .answered + st .refused ≡ 0)
-begins st e = subst (λ (s : State). Sound s × (s .offset ≡ 0) × (s .answered + s .refused ≡ 0)) (sym e) (begun-held, refl, refl)
+pub begins : (st : State) → st ≡ begun → Sound (st .layer) (st .«weight_bytes») × (st .offset ≡ 0) × (st .answered + st .refused ≡ 0)
+begins st e = subst (λ (s : State). Sound (s .layer) (s .«weight_bytes») × (s .offset ≡ 0) × (s .answered + s .refused ≡ 0)) (sym e) (begun-sound, refl, refl)

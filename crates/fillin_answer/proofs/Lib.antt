@@ -1,6 +1,4 @@
--- What `fillin` answers: what is held from record to record.
-pub mod Replies
+-- What is kept from record to record, and one answer for each call.
 pub mod Begun
-pub mod Holding
-pub mod Concluding
+pub mod Kept
 pub mod Unique

@@ -7,7 +7,7 @@ use denote.Ref.{now}
 use Rattle.refusals.proofs.Once.{OneResult, OneCall, same}
 use Rattle.fillin_answer.specs.declared.state.State.{State}
 use Rattle.fillin_answer.specs.declared.state.Reply.{Reply}
-use Rattle.fillin_answer.specs.Answers.{Response, Replied}
+use Rattle.fillin_answer.specs.Answers.{Answer, Replied}
 use Rattle.fillin_answer.proofs.state.start.Reads as start
 use Rattle.fillin_answer.proofs.answers.answer.Reads as answer
 
@@ -19,7 +19,7 @@ one-reply x y s l o =
     reply : State → ℕ → Bool → Reply
     reply z n b = record { state = z; length = n; over = b }
 
-replied-once : (a : Response) (x y : Reply) (before p q : List ℕ) → Replied a x before p → Replied a y before q → (x ≡ y) × (p ≡ q)
+replied-once : (a : Answer) (x y : Reply) (before p q : List ℕ) → Replied a x before p → Replied a y before q → (x ≡ y) × (p ≡ q)
 replied-once a x y before p q h k =
     (one-reply x y (same (h .same-state) (k .same-state)) (same (h .same-length) (k .same-length)) (same (h .same-over) (k .same-over)), same (h .same-line) (k .same-line))
 

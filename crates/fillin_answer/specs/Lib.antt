@@ -1,3 +1,4 @@
 -- What `fillin` answers to one record.
 pub mod Kept
 pub mod Answers
+pub mod Inner

@@ -1,136 +1,153 @@
-// The answer to one record.
+// The answer to one record: it is decided, and then its line is written.
 use crate::state::Reply;
 use crate::state::State;
+use fillin_lines::Line;
 use fillin_window::window_outputs;
 use records::Item;
 use refusals::Outcome;
+use refusals::Refusal;
 use stepped_shape::Layer;
 ghost use mathlib.Core.Path.{_≡_};
 ghost use Prim.Native.Nat.{_+_, _*_, _^_, _≤_, _<_};
-ghost use mathlib.Core.List.{[]};
+ghost use mathlib.Core.List.{_++_};
 ghost use lib.ListN.{length, take, drop};
+ghost use Rattle.records.specs.Kinds.{mostWeights, weightsIn, readingsIn};
 ghost use Rattle.fillin_text.specs.Text.{laid};
-ghost use Rattle.fillin_lines.specs.Lines.{mostLine};
-ghost use Rattle.records.specs.Found.{ended, layer, window, warmUp, refused};
-ghost use Rattle.fillin_answer.specs.Kept.{Sound, Ready};
-ghost use Rattle.fillin_answer.specs.Answers.{Replied, respond, answerTo};
+ghost use Rattle.fillin_lines.specs.declared.lines.Line.the-variants as said;
+ghost use Rattle.fillin_window.specs.Windows.{Sound, readingsOf, outputsOf};
+ghost use Rattle.fillin_answer.specs.Kept.{Ready, Carried, withLayer, behind, oneAnswered, oneRefused};
+ghost use Rattle.fillin_answer.specs.Answers.{Replied, windowNumber, answerTo};
+ghost use Rattle.fillin_answer.specs.Inner.{saying, Decides};
 
-// Nothing is left: `end`.
-fn finish(st: State, line: &mut [u8]) -> Reply
-    requires { ⌜ mostLine ≤ length (now line) ⌝ }
-    ensures { λ r. ⌜ Replied (respond ended [] st []) r (now (line .entry)) (now (line .exit)) ⌝ }
-{
-    let length = fillin_lines::end_line(line, st.answered, st.refused);
-    Reply {
-        state: st,
-        length,
-        over: true,
-    }
+// What a record is answered with: the line, how many outputs it shows, and what is kept then.
+struct Decided {
+    line: Line,
+    outputs: usize,
+    state: State,
 }
 
-// A record is refused: `stop`.
-fn stop(st: State, no: u32, line: &mut [u8]) -> Reply
-    requires { ⌜ mostLine ≤ length (now line) ⌝ }
-    ensures { λ r. ⌜ Replied (respond (refused no) [] st []) r (now (line .entry)) (now (line .exit)) ⌝ }
-{
-    let length = fillin_lines::stop_line(line, no, st.offset);
-    Reply {
-        state: st,
-        length,
-        over: true,
-    }
-}
-
-// The offset behind a record of so many bytes.
-fn offset_behind(st: State, size: usize) -> u64
+// The state behind a record of so many bytes.
+fn behind_record(mut st: State, size: usize) -> State
     requires { ⌜ st .offset + size < 2 ^ 64 ⌝ }
-    ensures { λ r. ⌜ r ≡ st .offset + size ⌝ }
+    ensures { λ r. ⌜ r ≡ behind size st ⌝ }
 {
-    st.offset + size as u64
+    st.offset += size as u64;
+    st
 }
 
-// A layer: its weights are kept, and its line is `layer`.
-fn take_layer(
-    st: State,
-    l: Layer,
-    size: usize,
-    payload: &[u8],
-    weights: &mut [u8],
-    line: &mut [u8],
-) -> Reply
-    requires { ⌜ (mostLine ≤ length (now line)) × (length (drop 9 (now payload)) ≤ length (now weights))
-        × (st .offset + size < 2 ^ 64) ⌝ }
-    ensures { λ r. ⌜ Replied
-        (respond (layer (l .format) (l .«in_feat») (l .«out_feat») (st .offset + size)) (now (payload .entry)) st []) r
-        (now (line .entry)) (now (line .exit)) ⌝ }
-    ensures { λ _. ⌜ now (weights .exit) ≡ laid (now (weights .entry)) 0 (drop 9 (now (payload .entry))) ⌝ }
+// A layer: its weights are kept.
+fn take_layer(st: State, l: Layer, size: usize, payload: &[u8], weights: &mut [u8]) -> Decided
+    requires { ⌜ (length (weightsIn (now payload)) ≤ length (now weights)) × (st .offset + size < 2 ^ 64) ⌝ }
+    ensures { λ r. ⌜ r ≡ saying (said.Layer (l .format) (l .«in_feat») (l .«out_feat»)) 0
+        (withLayer l (length (weightsIn (now (payload .entry)))) (behind size st)) ⌝ }
+    ensures { λ _. ⌜ now (weights .exit) ≡ laid (now (weights .entry)) 0 (weightsIn (now (payload .entry))) ⌝ }
 {
-    let weight_bytes = bytes::copy(records::weights(payload), weights);
-    let length = fillin_lines::layer_line(line, l.format, l.in_feat, l.out_feat);
-    let state = State {
-        layer: l,
-        weight_bytes,
-        offset: offset_behind(st, size),
-        answered: st.answered,
-        refused: st.refused,
-    };
-    Reply {
+    let mut state = behind_record(st, size);
+    state.layer = l;
+    state.weight_bytes = bytes::copy(records::weights(payload), weights);
+    Decided {
+        line: Line::Layer {
+            format: l.format,
+            in_feat: l.in_feat,
+            out_feat: l.out_feat,
+        },
+        outputs: 0,
         state,
-        length,
-        over: false,
     }
 }
 
-// A window with warm-up readings: `refused 13`.
-fn refuse_window(st: State, size: usize, line: &mut [u8]) -> Reply
-    requires { ⌜ (mostLine ≤ length (now line)) × (st .offset + size < 2 ^ 64)
-        × (st .answered + st .refused + 1 < 2 ^ 64) ⌝ }
-    ensures { λ r. ⌜ Replied (respond (warmUp (st .offset + size)) [] st []) r (now (line .entry))
-        (now (line .exit)) ⌝ }
+// A window with warm-up readings: it is refused.
+fn refuse_window(st: State, size: usize) -> Decided
+    requires { ⌜ (st .offset + size < 2 ^ 64) × (st .answered + st .refused + 1 < 2 ^ 64) ⌝ }
+    ensures { λ r. ⌜ r ≡ saying (said.WarmUp (windowNumber st)) 0 (oneRefused (behind size st)) ⌝ }
 {
-    let length = fillin_lines::refused_line(line, st.answered + st.refused + 1);
-    let l = st.layer;
-    let state = State {
-        layer: l,
-        weight_bytes: st.weight_bytes,
-        offset: offset_behind(st, size),
-        answered: st.answered,
-        refused: st.refused + 1,
-    };
-    Reply {
+    let mut state = behind_record(st, size);
+    state.refused += 1;
+    Decided {
+        line: Line::WarmUp(st.answered + st.refused + 1),
+        outputs: 0,
         state,
-        length,
-        over: false,
+    }
+}
+
+// A record is refused: nothing more is answered.
+fn stop(st: State, why: Refusal) -> Decided
+    ensures { λ r. ⌜ r ≡ saying (said.Stop why (st .offset)) 0 st ⌝ }
+{
+    Decided {
+        line: Line::Stop {
+            why,
+            offset: st.offset,
+        },
+        outputs: 0,
+        state: st,
     }
 }
 
 // A window for the latest layer: its outputs.
-fn answer_window(st: State, size: usize, payload: &[u8], weights: &[u8], line: &mut [u8]) -> Reply
-    requires { ⌜ Sound st × (mostLine ≤ length (now line)) × (length (now weights) ≡ st .«weight_bytes») ⌝ }
-    requires { ⌜ (length (now payload) ≡ st .layer .«in_feat» * 4) × (st .offset + size < 2 ^ 64)
-        × (st .answered + st .refused + 1 < 2 ^ 64) ⌝ }
-    ensures { λ r. ⌜ Replied (respond (window (st .offset + size)) (now (payload .entry)) st (now (weights .entry))) r
-        (now (line .entry)) (now (line .exit)) ⌝ }
+fn answer_window(st: State, size: usize, payload: &[u8], weights: &[u8], y: &mut [f32]) -> Decided
+    requires { ⌜ Sound (st .layer) (length (now weights)) × (16 ≤ length (now y))
+        × (length (readingsIn (now payload)) ≡ st .layer .«in_feat» * 4) ⌝ }
+    requires { ⌜ (st .offset + size < 2 ^ 64) × (st .answered + st .refused + 1 < 2 ^ 64) ⌝ }
+    ensures { λ r. ⌜ r ≡ saying (said.Window (windowNumber st)) (st .layer .«out_feat»)
+        (oneAnswered (behind size st)) ⌝ }
+    ensures { λ _. ⌜ now (y .exit) ≡ outputsOf (st .layer) (now (weights .entry))
+        (readingsOf (readingsIn (now (payload .entry))) (st .layer)) ++ drop (st .layer .«out_feat») (now (y .entry)) ⌝ }
 {
     let l = st.layer;
-    let rows = l.out_feat;
-    let mut y = [0.0f32; records::MOST_LAYER_OUT];
-    let filled = window_outputs(l, weights, payload, &mut y);
-    if let Outcome::Refused(no) = filled {
-        return stop(st, no, line);
+    if let Outcome::Refused(why) = window_outputs(l, weights, records::readings_of(payload), y) {
+        return stop(st, why);
     }
-    let length = fillin_lines::window_line(line, st.answered + st.refused + 1, &y[..rows]);
-    let state = State {
-        layer: l,
-        weight_bytes: st.weight_bytes,
-        offset: offset_behind(st, size),
-        answered: st.answered + 1,
-        refused: st.refused,
-    };
-    Reply {
+    let mut state = behind_record(st, size);
+    state.answered += 1;
+    Decided {
+        line: Line::Window(st.answered + st.refused + 1),
+        outputs: l.out_feat,
         state,
-        length,
-        over: false,
+    }
+}
+
+// What the record that these bytes are is answered with. A layer's weights go to the front of `weights`, and a window's
+// outputs to the front of y.
+fn decide(st: State, record: &[u8], weights: &mut [u8], y: &mut [f32]) -> Decided
+    requires { ⌜ Sound (st .layer) (st .«weight_bytes») × (mostWeights ≤ length (now weights))
+        × (16 ≤ length (now y)) ⌝ }
+    requires { ⌜ (st .offset + length (now «record») < 2 ^ 64) × (st .answered + st .refused + 1 < 2 ^ 64) ⌝ }
+    ensures { λ r. ⌜ Decides (answerTo st (take (st .«weight_bytes») (now (weights .entry))) (now («record» .entry))) r
+        (now (y .exit)) ⌝ }
+    ensures { λ _. ⌜ now (weights .exit)
+        ≡ laid (now (weights .entry)) 0
+        (answerTo st (take (st .«weight_bytes») (now (weights .entry))) (now («record» .entry)) .weights) ⌝ }
+{
+    let l = st.layer;
+    let size = record.len();
+    match records::read(record, l.in_feat) {
+        Item::End => Decided {
+            line: Line::End {
+                answered: st.answered,
+                refused: st.refused,
+            },
+            outputs: 0,
+            state: st,
+        },
+        Item::Layer {
+            format,
+            in_feat,
+            out_feat,
+        } => {
+            let latest = Layer {
+                format,
+                in_feat,
+                out_feat,
+            };
+            take_layer(st, latest, size, frames::payload(record), weights)
+        }
+        Item::Window => {
+            let kept = st.weight_bytes;
+            answer_window(st, size, frames::payload(record), &weights[..kept], y)
+        }
+        Item::WarmUp => refuse_window(st, size),
+        Item::Refused(why) => stop(st, why),
     }
 }
 
@@ -143,31 +160,18 @@ pub fn answer(st: State, record: &[u8], weights: &mut [u8], line: &mut [u8]) -> 
     ensures { λ _. ⌜ now (weights .exit)
         ≡ laid (now (weights .entry)) 0
         (answerTo st (take (st .«weight_bytes») (now (weights .entry))) (now («record» .entry)) .weights) ⌝ }
-    ensures { λ r. ⌜ Sound (r .state) × (r .state .offset ≤ st .offset + length (now («record» .entry)))
-        × (r .state .answered + r .state .refused ≤ st .answered + st .refused + 1)
+    ensures { λ r. ⌜ Carried st (length (now («record» .entry))) (r .state)
         × (r .length ≤ length (now (line .exit))) ⌝ }
 {
-    let l = st.layer;
-    match records::read_at(record, 0, l.in_feat) {
-        Item::End => finish(st, line),
-        Item::Layer {
-            format,
-            in_feat,
-            out_feat,
-            next,
-        } => {
-            let latest = Layer {
-                format,
-                in_feat,
-                out_feat,
-            };
-            take_layer(st, latest, next, frames::payload(record, 0), weights, line)
-        }
-        Item::Window { next } => {
-            let held = st.weight_bytes;
-            answer_window(st, next, frames::payload(record, 0), &weights[..held], line)
-        }
-        Item::WarmUp { next } => refuse_window(st, next, line),
-        Item::Refused(no) => stop(st, no, line),
+    let mut y = [0.0f32; records::MOST_LAYER_OUT];
+    let decided = decide(st, record, weights, &mut y);
+    let shown = decided.outputs;
+    let says = decided.line;
+    let state = decided.state;
+    let length = fillin_lines::write_line(says, &y[..shown], line);
+    Reply {
+        state,
+        length,
+        over: fillin_lines::is_last(says),
     }
 }

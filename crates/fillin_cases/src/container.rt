@@ -1,8 +1,7 @@
 // The files of a container, one after the other.
 use crate::answers::LARGE;
 use crate::answers::answer_file;
-ghost use Prim.Native.Nat.{_+_, _≤_, _<_, _^_};
-ghost use lib.ListN.{length};
+use numbers::u32_at;
 
 // How a file is answered: at each of its cuts, from no bytes to all of them; with at most 1 byte to a read, then 2, and
 // so on; a thousand times, one behind the other; and otherwise as it is.
@@ -14,14 +13,6 @@ const A_THOUSAND: u8 = 3;
 
 // The bytes of a piece at most: one more than the length and the kind have.
 const MOST_PIECE: usize = 7;
-
-// The four bytes at i, as a size.
-fn u32_at(s: &[u8], i: usize) -> usize
-    requires { ⌜ i + 4 ≤ length (now s) ⌝ }
-    ensures { λ r. ⌜ r < 2 ^ 32 ⌝ }
-{
-    numbers::le_u32(s[i], s[i + 1], s[i + 2], s[i + 3]) as usize
-}
 
 // Answers a file at each of its cuts. The number of the next answer.
 fn answer_cuts(number: u64, file: &[u8]) -> u64 {

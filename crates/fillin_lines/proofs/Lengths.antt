@@ -4,6 +4,7 @@ use native.Mathlib.Omega.{arith}
 use mathlib.Core.List.{List}
 use lib.Ieee.{Float}
 use lib.ListN.{length, length-append}
+use Rattle.refusals.specs.declared.Refusal.{Refusal}
 use Rattle.fillin_lines.specs.Lines.{layerLine, windowHead, windowLine, refusedLine, stopLine, endLine}
 use Rattle.fillin_text.proofs.Decimal.{length-field}
 use Rattle.fillin_lines.proofs.Outputs.{length-output-fields}
@@ -32,10 +33,10 @@ pub refused-line-length : (number : ℕ) → Fitting (refusedLine number)
 unfolding refusedLine windowHead
 refused-line-length number = let a = length-field number in record { some = simp length-append (omega arith); most = simp length-append (omega arith) }
 
-pub stop-line-length : (num offset : ℕ) → Fitting (stopLine num offset)
+pub stop-line-length : (why : Refusal) (offset : ℕ) → Fitting (stopLine why offset)
 unfolding stopLine
-stop-line-length num offset =
-    let a = length-field num in
+stop-line-length why offset =
+    let a = length-field (why .number) in
     let b = length-field offset in
     record { some = simp length-append (omega arith); most = simp length-append (omega arith) }
 

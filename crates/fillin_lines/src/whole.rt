@@ -2,6 +2,7 @@
 use fillin_text::put;
 use fillin_text::put_field;
 use fillin_text::put_output;
+use refusals::Refusal;
 ghost use mathlib.Core.Path.{_≡_};
 ghost use Prim.Native.Nat.{_≤_};
 ghost use mathlib.Core.List.{_++_};
@@ -14,7 +15,7 @@ ghost use Rattle.fillin_lines.specs.Lines.{layerLine, windowLine, refuse
 pub const MOST_LINE: usize = 172;
 
 // `layer`, format, in_feat, out_feat.
-pub fn layer_line(line: &mut [u8], format: u8, in_feat: usize, out_feat: usize) -> usize
+pub(crate) fn layer_line(line: &mut [u8], format: u8, in_feat: usize, out_feat: usize) -> usize
     requires { ⌜ mostLine ≤ length (now line) ⌝ }
     ensures { λ _. ⌜ now (line .exit) ≡ laid (now (line .entry)) 0 (layerLine format «in_feat» «out_feat») ⌝ }
     ensures { λ r. ⌜ (r ≡ length (layerLine format «in_feat» «out_feat»)) × (r ≤ mostLine) ⌝ }
@@ -27,7 +28,7 @@ pub fn layer_line(line: &mut [u8], format: u8, in_feat: usize, out_feat: usize) 
 }
 
 // `window`, its number, then each output's bits.
-pub fn window_line(line: &mut [u8], number: u64, outputs: &[f32]) -> usize
+pub(crate) fn window_line(line: &mut [u8], number: u64, outputs: &[f32]) -> usize
     requires { ⌜ (mostLine ≤ length (now line)) × (length (now outputs) ≤ 16) ⌝ }
     ensures { λ _. ⌜ now (line .exit) ≡ laid (now (line .entry)) 0 (windowLine number (now (outputs .entry))) ⌝ }
     ensures { λ r. ⌜ (r ≡ length (windowLine number (now (outputs .entry)))) × (r ≤ mostLine) ⌝ }
@@ -43,7 +44,7 @@ pub fn window_line(line: &mut [u8], number: u64, outputs: &[f32]) -> usize
 }
 
 // `window`, its number, `refused 13`.
-pub fn refused_line(line: &mut [u8], number: u64) -> usize
+pub(crate) fn refused_line(line: &mut [u8], number: u64) -> usize
     requires { ⌜ mostLine ≤ length (now line) ⌝ }
     ensures { λ _. ⌜ now (line .exit) ≡ laid (now (line .entry)) 0 (refusedLine number) ⌝ }
     ensures { λ r. ⌜ (r ≡ length (refusedLine number)) × (r ≤ mostLine) ⌝ }
@@ -66,17 +67,17 @@ fn word_and_two(line: &mut [u8], word: &[u8], one: u64, two: u64) -> usize
     put(line, c, b"\n")
 }
 
-// `stop`, the number that says no, the record's byte offset.
-pub fn stop_line(line: &mut [u8], no: u32, offset: u64) -> usize
+// `stop`, the refusal's number, the record's byte offset.
+pub(crate) fn stop_line(line: &mut [u8], why: Refusal, offset: u64) -> usize
     requires { ⌜ mostLine ≤ length (now line) ⌝ }
-    ensures { λ _. ⌜ now (line .exit) ≡ laid (now (line .entry)) 0 (stopLine no offset) ⌝ }
-    ensures { λ r. ⌜ (r ≡ length (stopLine no offset)) × (r ≤ mostLine) ⌝ }
+    ensures { λ _. ⌜ now (line .exit) ≡ laid (now (line .entry)) 0 (stopLine why offset) ⌝ }
+    ensures { λ r. ⌜ (r ≡ length (stopLine why offset)) × (r ≤ mostLine) ⌝ }
 {
-    word_and_two(line, b"stop", no as u64, offset)
+    word_and_two(line, b"stop", why.number as u64, offset)
 }
 
 // `end`, windows answered, windows refused.
-pub fn end_line(line: &mut [u8], answered: u64, refused: u64) -> usize
+pub(crate) fn end_line(line: &mut [u8], answered: u64, refused: u64) -> usize
     requires { ⌜ mostLine ≤ length (now line) ⌝ }
     ensures { λ _. ⌜ now (line .exit) ≡ laid (now (line .entry)) 0 (endLine answered refused) ⌝ }
     ensures { λ r. ⌜ (r ≡ length (endLine answered refused)) × (r ≤ mostLine) ⌝ }

@@ -11,7 +11,7 @@ use borrow.Author.Tests.{eqb-true}
 use Rattle.memory.specs.Lists.{table, filled, part}
 use Rattle.memory.proofs.Filled.{filled-none, filled-more, filled-behind, length-table, length-filled, table-ext, table-of, part-at}
 use Rattle.fillin_loop.specs.declared.input.Unread.{Unread}
-use Rattle.fillin_loop.specs.Input.{unreadIn, Within, ReadOn}
+use Rattle.fillin_loop.specs.Input.{unreadIn, InBuffer, ReadOn}
 
 -- the byte that comes to place i
 abbrev pub from-place : List ℕ → (from : ℕ) → ℕ → ℕ
@@ -43,7 +43,7 @@ module _ (buf : List ℕ) (from count : ℕ) where
 
 -- ---- what is read behind them: `front` stands before it, and `more` bytes of what stands there came
 
-module _ (buf : List ℕ) (u : Unread) (moved : List ℕ) (inside : Within buf u) (same : take (u .to - u .from) moved ≡ unreadIn buf u) where
+module _ (buf : List ℕ) (u : Unread) (moved : List ℕ) (inside : InBuffer buf u) (same : take (u .to - u .from) moved ≡ unreadIn buf u) where
   abbrev kept : ℕ
   kept = u .to - u .from
 

@@ -12,12 +12,12 @@ abbrev pub unreadIn : List ℕ → Unread → List ℕ
 unreadIn buf u = part buf (u .from) (u .to - u .from)
 
 -- their places are places of the buffer
-pub record Within (buf : List ℕ) (u : Unread) : Type 0 where
+pub record InBuffer (buf : List ℕ) (u : Unread) : Type 0 where
   pub in-order : u .from ≤ u .to
   pub inside : u .to ≤ length buf
 
 -- after a read: they stand in front of what came, and nothing came where the input has ended
 pub record ReadOn (before : List ℕ) (u : Unread) (after : List ℕ) (r : Unread) : Type 0 where
-  pub within : Within after r
+  pub within : InBuffer after r
   pub kept : take (length (unreadIn before u)) (unreadIn after r) ≡ unreadIn before u
   pub nothing-more : r .ended ≡ true → unreadIn after r ≡ unreadIn before u

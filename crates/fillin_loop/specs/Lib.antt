@@ -1,3 +1,2 @@
 -- What the loop over an input relies on.
 pub mod Input
-pub mod Turns

@@ -12,8 +12,7 @@ ghost use lib.ListN.{length};
 ghost use Rattle.frames.specs.Frame.{mostRecord};
 ghost use Rattle.records.specs.Kinds.{mostWeights};
 ghost use Rattle.fillin_lines.specs.Lines.{mostLine};
-ghost use Rattle.fillin_answer.specs.Kept.{Ready};
-ghost use Rattle.fillin_loop.specs.Turns.{Kept};
+ghost use Rattle.fillin_answer.specs.Kept.{Ready, Carried};
 
 // A proved loop has to end, and nothing says that the input does: so many turns are taken at most, 2^48, each of which
 // reads once or answers a record. At a million a second they take nine years.
@@ -84,7 +83,7 @@ struct Turn {
 // Answers one record and writes its line.
 fn answer_one(desk: Desk, st: State, record: &[u8], weights: &mut [u8], line: &mut [u8]) -> Turn
     requires { ⌜ Ready st (length (now «record»)) (length (now weights)) (length (now line)) ⌝ }
-    ensures { λ r. ⌜ Kept st (length (now («record» .entry))) (r .state) ⌝ }
+    ensures { λ r. ⌜ Carried st (length (now («record» .entry))) (r .state) ⌝ }
 {
     let reply = fillin_answer::answer(st, record, weights, line);
     let state = reply.state;

@@ -5,7 +5,7 @@ ghost use mathlib.Core.Path.{_≡_};
 ghost use Prim.Native.Nat.{_-_, _≤_, _<_};
 ghost use lib.ListN.{length, take};
 ghost use Rattle.memory.specs.Lists.{part};
-ghost use Rattle.fillin_loop.specs.Input.{Within, ReadOn};
+ghost use Rattle.fillin_loop.specs.Input.{InBuffer, ReadOn};
 
 // The bytes that are read ahead at most: twice the longest record, so that one which is not all there has room behind
 // it.
@@ -91,7 +91,7 @@ fn read_some(input: i32, buf: &mut [u8]) -> Came
 // Reads on: the bytes that are not answered yet are moved to the front, and one read puts more behind them, or nothing
 // where the input has ended.
 pub(crate) fn read_on(desk: Desk, buf: &mut [u8], unread: Unread) -> Unread
-    requires { ⌜ Within (now buf) unread × (unread .to - unread .from < length (now buf)) × (0 < desk .most) ⌝ }
+    requires { ⌜ InBuffer (now buf) unread × (unread .to - unread .from < length (now buf)) × (0 < desk .most) ⌝ }
     ensures { λ r. ⌜ ReadOn (now (buf .entry)) unread (now (buf .exit)) r ⌝ }
 {
     let from = unread.from;

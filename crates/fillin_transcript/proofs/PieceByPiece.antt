@@ -9,26 +9,14 @@ use lib.Dec.{leb}
 use lib.ListN.{length, take, drop, length-append, length-drop, drop-of-length-le}
 use lib.Seq.{take-all, take-length, take-append-le, drop-append-le}
 use Rattle.frames.specs.Frame.{sizeOf}
-use Rattle.records.specs.Found.{foundAt}
 use Rattle.frames.specs.Pieces.{nextIn}
-use Rattle.frames.proofs.Pieces.{size-least, size-front, next-whole, next-left, next-more}
+use Rattle.frames.proofs.Pieces.{size-within, size-front, next-whole, next-left, next-more}
+use Rattle.fillin_lines.specs.Lines.{isLast}
 use Rattle.fillin_answer.specs.declared.state.State.{State}
 use Rattle.fillin_answer.specs.Kept.{begun}
-use Rattle.fillin_answer.specs.Answers.{Response, answerTo}
-use Rattle.fillin_transcript.specs.Transcript.{transcript, byRecords, joined, came, behind, over, byNext, byPieces}
-use Rattle.fillin_transcript.proofs.RecordByRecord.{cond-same, record-by-record}
-
--- the lines from an answer on
-abbrev onward : Response → List ℕ → List ℕ
-onward a lines = a .text ++ cond (a .over) [] lines
-
-onward-same : (a : Response) (x y : List ℕ) → (a .over ≡ false → x ≡ y) → onward a x ≡ onward a y
-onward-same a x y h = ap (λ (lines : List ℕ). a .text ++ lines) (cond-same (a .over) x y h)
-
--- nothing is left: the last line
-ends : (st : State) (w : List ℕ) → answerTo st w [] .over ≡ true
-unfolding answerTo foundAt
-ends st w = refl
+use Rattle.fillin_answer.specs.Answers.{answerTo}
+use Rattle.fillin_transcript.specs.Transcript.{onward, byRecords, transcript, joined, came, behind, over, byNext, byPieces}
+use Rattle.fillin_transcript.proofs.RecordByRecord.{onward-same, ends}
 
 -- turns that are enough for what has come, for the pieces and for the read that gives nothing
 abbrev Enough : (most : ℕ) → List ℕ → Bool → List (List ℕ) → Type 0
@@ -39,7 +27,7 @@ whole-record : (m : ℕ) (rest more : List ℕ) (st : State) (w : List ℕ) → 
     → byRecords (suc m) (rest ++ more) st w ≡ (let a = answerTo st w (take (sizeOf rest) rest) in onward a (byRecords m (drop (sizeOf rest) rest ++ more) (a .state) (a .weights)))
 unfolding byRecords
 whole-record m rest more st w h =
-    let size = size-front rest more (omega (arith, size-least rest)) in
+    let size = size-front rest more (omega (arith, size-within rest)) in
     rw (size, take-append-le (sizeOf rest) rest more h, drop-append-le (sizeOf rest) rest more h)
 
 -- the input has ended, and what is left is no whole record
@@ -91,7 +79,7 @@ on-whole n m rest ended pieces st w h later =
     ∙ sym (whole-record m rest (joined pieces) st w h)
 
 on-left : (n m : ℕ) (rest : List ℕ) (st : State) (w : List ℕ) → length rest < sizeOf rest
-    → (let a = answerTo st w rest in a .over ≡ false → byPieces n [] true [] (a .state) (a .weights) ≡ byRecords m [] (a .state) (a .weights))
+    → (let a = answerTo st w rest in isLast (a .says) ≡ false → byPieces n [] true [] (a .state) (a .weights) ≡ byRecords m [] (a .state) (a .weights))
     → byPieces (suc n) rest true [] st w ≡ byRecords (suc m) (rest ++ joined []) st w
 unfolding joined
 on-left n m rest st w h later =
@@ -102,7 +90,7 @@ on-left n m rest st w h later =
 
 -- what is behind a whole record is shorter
 shorter : (rest more : List ℕ) → sizeOf rest ≤ length rest → length (drop (sizeOf rest) rest ++ more) + 4 ≤ length (rest ++ more)
-shorter rest more h = rw (length-append, length-append, length-drop) (omega (arith, size-least rest))
+shorter rest more h = rw (length-append, length-append, length-drop) (omega (arith, size-within rest))
 
 in-pieces : (n m : ℕ) (rest : List ℕ) (ended : Bool) (pieces : List (List ℕ)) (st : State) (w : List ℕ)
     → (ended ≡ true → pieces ≡ []) → length (rest ++ joined pieces) < m → Enough n rest ended pieces
@@ -113,7 +101,7 @@ in-pieces (suc n) zero rest ended pieces st w none enough turns = absurd (omega 
 in-pieces (suc n) (suc m) rest true (piece ∷ pieces) st w none enough turns = let e = none refl in let z : _≡_ {A = ℕ} 0 1 = cc in absurd (omega arith)
 in-pieces (suc n) (suc m) [] true [] st w none enough turns =
     by-size []
-    (λ h. absurd (omega (arith, size-least [])))
+    (λ h. absurd (omega (arith, size-within [])))
     (λ h. on-left n m [] st w h (λ o. absurd (true≢false (sym (ends st w) ∙ o))))
 in-pieces (suc n) (suc m) (b ∷ bs) true [] st w none enough turns =
     by-size (b ∷ bs)
@@ -151,6 +139,6 @@ in-pieces (suc n) (suc m) rest false (piece ∷ pieces) st w none enough turns =
 
 -- THE PROGRAM'S TRANSCRIPT, IN PIECES
 pub piece-by-piece : (pieces : List (List ℕ)) (most : ℕ) → length (joined pieces) + length pieces + 1 < most → byPieces most [] false pieces begun [] ≡ transcript (joined pieces)
+unfolding transcript
 piece-by-piece pieces most turns =
-    in-pieces most (length (joined pieces) + 1) [] false pieces begun [] (λ e. absurd (true≢false (sym e))) (omega arith) turns
-    ∙ sym (record-by-record (joined pieces))
+    in-pieces most _ [] false pieces begun [] (λ e. absurd (true≢false (sym e))) (omega arith) turns

@@ -5,7 +5,10 @@ use Prim.Native.Nat.{ℕ}
 use denote.Ref.{now}
 use Rattle.refusals.proofs.Once.{OneResult, same}
 use Rattle.frames.proofs.frame.size_of.Reads as size
+use Rattle.frames.proofs.frame.frame_of.Reads as frame
 use Rattle.frames.proofs.frame.payload.Reads as payload
+use Rattle.frames.proofs.frame.rest.Reads as rest
+use Rattle.frames.proofs.frame.next_record.Reads as next
 
 -- any two parts that meet the contract P at the same arguments have the same bytes
 module _ {L : Type 0} {A R S : L → Type 0} where
@@ -15,5 +18,14 @@ module _ {L : Type 0} {A R S : L → Type 0} where
 pub size-of-once : OneResult size.Post
 size-of-once κs a x y s t h k = same (h .0) (k .0)
 
+pub frame-of-once : OneResult frame.Post
+frame-of-once κs a x y s t h k = same h k
+
 pub payload-once : OneList payload.Post (λ κs x. now x)
 payload-once κs a x y s t h k = same h k
+
+pub rest-once : OneList rest.Post (λ κs x. now x)
+rest-once κs a x y s t h k = same h k
+
+pub next-record-once : OneResult next.Post
+next-record-once κs a x y s t h k = same h k

@@ -1,8 +1,10 @@
 // A record: a u32 length of its kind and payload, a u16 kind, the payload.
-use crate::fields::u32_at;
+use numbers::u16_at;
+use numbers::u32_at;
 ghost use mathlib.Core.Path.{_≡_};
 ghost use Prim.Native.Nat.{_≤_};
-ghost use Rattle.frames.specs.Frame.{mostRecord, goodLength, sizeOf, isWhole, payloadAt};
+ghost use Rattle.frames.specs.Frame.{mostRecord, goodLength, sizeOf, isWhole, frameOf};
+ghost use Rattle.frames.specs.Frame.{frontOf, payloadOf, restOf};
 ghost use Rattle.frames.specs.Pieces.{nextIn};
 
 // What a length field says at most: a kind and its payload.
@@ -11,10 +13,17 @@ const MOST_LENGTH: usize = 32_768;
 // A record's bytes at most, with its length field.
 pub const MOST_RECORD: usize = 32_772;
 
-// Whether a length field is from 2 to 32,768.
-fn good_length(n: usize) -> bool
-    ensures { λ r. ⌜ r ≡ goodLength n ⌝ }
+// The bytes before a payload: the length and the kind.
+const HEAD: usize = 6;
+
+// Whether these bytes begin with a length field, from 2 to 32,768.
+fn good_length(s: &[u8]) -> bool
+    ensures { λ r. ⌜ r ≡ goodLength (now (s .entry)) ⌝ }
 {
+    if s.len() < 4 {
+        return false;
+    }
+    let n = u32_at(s, 0);
     if n < 2 {
         return false;
     }
@@ -23,13 +32,68 @@ fn good_length(n: usize) -> bool
 
 // How many bytes the record has that begins with these: 4, its length field, where that is missing or bad.
 pub fn size_of(s: &[u8]) -> usize
-    ensures { λ r. ⌜ (r ≡ sizeOf (now (s .entry))) × (4 ≤ r) × (r ≤ mostRecord) ⌝ }
+    ensures { λ r. ⌜ (r ≡ sizeOf (now (s .entry))) × (r ≤ mostRecord) ⌝ }
 {
-    if s.len() < 4 {
-        return 4;
+    if good_length(s) { 4 + u32_at(s, 0) } else { 4 }
+}
+
+// Whether these bytes begin with a good length and all the bytes that it counts.
+fn is_whole(s: &[u8]) -> bool
+    ensures { λ r. ⌜ r ≡ isWhole (now (s .entry)) ⌝ }
+{
+    if !good_length(s) {
+        return false;
     }
-    let n = u32_at(s, 0);
-    if good_length(n) { 4 + n } else { 4 }
+    size_of(s) <= s.len()
+}
+
+// What bytes begin with.
+pub enum Front {
+    // Nothing is left.
+    Ended,
+    // A bad or cut length.
+    Torn,
+    // A whole record of this kind.
+    Whole(usize),
+}
+
+// What these bytes begin with.
+pub fn frame_of(s: &[u8]) -> Front
+    ensures { λ r. ⌜ r ≡ frontOf (frameOf (now (s .entry))) ⌝ }
+{
+    if s.len() == 0 {
+        return Front::Ended;
+    }
+    if !is_whole(s) {
+        return Front::Torn;
+    }
+    Front::Whole(u16_at(s, 4))
+}
+
+// The payload of the record that these bytes begin with, as a part of them; the empty part where no whole record
+// stands there.
+pub fn payload(s: &[u8]) -> &[u8]
+    ensures { λ r. ⌜ now r ≡ payloadOf (frameOf (now (s .entry))) ⌝ }
+{
+    if is_whole(s) {
+        let to = size_of(s);
+        &s[HEAD..to]
+    } else {
+        &s[..0]
+    }
+}
+
+// What follows the record that these bytes begin with, as a part of them; the empty part where no whole record stands
+// there.
+pub fn rest(s: &[u8]) -> &[u8]
+    ensures { λ r. ⌜ now r ≡ restOf (frameOf (now (s .entry))) ⌝ }
+{
+    if is_whole(s) {
+        let from = size_of(s);
+        &s[from..]
+    } else {
+        &s[..0]
+    }
 }
 
 // What stands at the front of bytes that come in pieces.
@@ -53,35 +117,4 @@ pub fn next_record(rest: &[u8], ended: bool) -> Next
         return Next::Bytes(rest.len());
     }
     Next::More
-}
-
-// Whether a whole record with a good length stands at i.
-pub fn is_whole(s: &[u8], i: usize) -> bool
-    ensures { λ r. ⌜ r ≡ isWhole (now (s .entry)) i ⌝ }
-{
-    if i > s.len() {
-        return false;
-    }
-    if s.len() - i < 4 {
-        return false;
-    }
-    let n = u32_at(s, i);
-    if !good_length(n) {
-        return false;
-    }
-    n <= s.len() - i - 4
-}
-
-// The payload of the record at i, as a part of the input; the empty part where no whole record stands there.
-pub fn payload(s: &[u8], i: usize) -> &[u8]
-    ensures { λ r. ⌜ now r ≡ payloadAt (now (s .entry)) i ⌝ }
-{
-    if is_whole(s, i) {
-        let n = u32_at(s, i);
-        let from = i + 6;
-        let to = i + 4 + n;
-        &s[from..to]
-    } else {
-        &s[..0]
-    }
 }

@@ -1,7 +1,5 @@
--- What is known of a record that was read, that records may be read one at a time, and one answer for each call.
+-- What is known of a record that was read, and one answer for each call.
 pub mod UpTo
 pub mod Zeros
-pub mod Items
-pub mod Read
-pub mod OneByOne
+pub mod Taken
 pub mod Unique

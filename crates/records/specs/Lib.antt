@@ -1,4 +1,3 @@
--- Document 01's "The record reader": a record's frame, the kinds and what they mean, what stands at an offset, and
--- records that come in pieces.
-pub mod Kinds
+-- Document 01's "The record reader": what it finds, and the kinds of records with what they mean and what is refused.
 pub mod Found
+pub mod Kinds

@@ -1,4 +1,4 @@
-// The record reader: what stands at an offset of a record file, or the number that says no.
+// The record reader: what stands at the front of a record file, or why it is refused.
 mod layers;
 mod reader;
 mod windows;
@@ -8,5 +8,6 @@ pub use layers::MOST_LAYER_OUT;
 pub use layers::MOST_WEIGHTS;
 pub use layers::weights;
 pub use reader::Item;
-pub use reader::read_at;
+pub use reader::read;
 pub use windows::readings;
+pub use windows::readings_of;

@@ -1,52 +1,61 @@
 // Kind 2, a window: in_feat f32 values for the latest layer.
-use frames::bits_at;
+use crate::reader::Item;
+use numbers::bits_at;
 ghost use mathlib.Core.Path.{_≡_};
 ghost use Prim.Native.Nat.{_*_, _≤_};
 ghost use lib.ListN.{length};
 ghost use Rattle.memory.specs.Lists.{table};
-ghost use Rattle.records.specs.Kinds.{hasZero, windowNo, readingAt};
+ghost use Rattle.records.specs.Found.{itemSays};
+ghost use Rattle.records.specs.Kinds.{readingsIn, readingAt, hasZero, windowFound};
 
-// The readings of a window's payload, as many as x has places.
-pub fn readings(p: &[u8], x: &mut [f32])
-    requires { ⌜ length (now x) * 4 ≤ length (now p) ⌝ }
-    ensures { λ _. ⌜ now (x .exit) ≡ table (readingAt (now (p .entry))) (length (now (x .entry))) ⌝ }
+// The part of a window's payload that has its readings: all of it.
+pub fn readings_of(p: &[u8]) -> &[u8]
+    ensures { λ r. ⌜ now r ≡ readingsIn (now (p .entry)) ⌝ }
+{
+    p
+}
+
+// The first readings, as many as x has places.
+pub fn readings(bytes: &[u8], x: &mut [f32])
+    requires { ⌜ length (now x) * 4 ≤ length (now bytes) ⌝ }
+    ensures { λ _. ⌜ now (x .exit) ≡ table (readingAt (now (bytes .entry))) (length (now (x .entry))) ⌝ }
 {
     let mut k: usize = 0;
     while k < x.len() {
-        x[k] = halves::of_bits(bits_at(p, k * 4));
+        x[k] = halves::of_bits(bits_at(bytes, k * 4));
         k += 1;
     }
 }
 
-// Whether one of the first n values of a payload has all bits zero.
-fn has_zero(p: &[u8], n: usize) -> bool
-    requires { ⌜ n * 4 ≤ length (now p) ⌝ }
-    ensures { λ r. ⌜ r ≡ hasZero (now (p .entry)) n ⌝ }
+// Whether one of the first n readings has all bits zero.
+fn has_zero(bytes: &[u8], n: usize) -> bool
+    requires { ⌜ n * 4 ≤ length (now bytes) ⌝ }
+    ensures { λ r. ⌜ r ≡ hasZero (now (bytes .entry)) n ⌝ }
 {
     for k in 0..n {
-        if bits_at(p, k * 4) == 0 {
+        if bits_at(bytes, k * 4) == 0 {
             return true;
         }
     }
     false
 }
 
-// Why a window's payload is refused, after a latest layer of so many readings, 0 where there is none yet; 0 where it is
-// not refused.
-pub(crate) fn window_no(p: &[u8], latest: usize) -> u32
-    ensures { λ r. ⌜ r ≡ windowNo (now (p .entry)) latest ⌝ }
+// The window record whose payload is p, after a latest layer of so many readings, 0 where there is none yet.
+pub(crate) fn window_item(p: &[u8], latest: usize) -> Item
+    ensures { λ r. ⌜ itemSays r ≡ windowFound (now (p .entry)) latest ⌝ }
 {
     if latest < 1 {
-        return refusals::MALFORMED;
+        return Item::Refused(refusals::MALFORMED);
     }
-    if p.len() / 4 != latest {
-        return refusals::MALFORMED;
+    let bytes = readings_of(p);
+    if bytes.len() / 4 != latest {
+        return Item::Refused(refusals::MALFORMED);
     }
-    if p.len() % 4 != 0 {
-        return refusals::MALFORMED;
+    if bytes.len() % 4 != 0 {
+        return Item::Refused(refusals::MALFORMED);
     }
-    if has_zero(p, latest) {
-        return refusals::WARM_UP;
+    if has_zero(bytes, latest) {
+        return Item::WarmUp;
     }
-    0
+    Item::Window
 }

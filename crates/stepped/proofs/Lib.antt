@@ -1,6 +1,4 @@
 -- Laws of the stepped layer's calls, and one answer for each call.
-pub mod Lists
-pub mod Answers
 pub mod Runs
 pub mod Counts
 pub mod Unique

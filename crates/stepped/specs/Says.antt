@@ -1,20 +1,22 @@
 -- What `open`, `run` and `close` say and what lent memory holds then: functions of the layer, its weights and readings,
--- and the lists that came in. Definitions only.
+-- and the memory that came in. Definitions only.
+use Prim.{Unit}
 use Prim.Native.Nat.{ℕ, zero, suc, _+_, min}
 use mathlib.Core.Bool.{_&&_, cond}
 use mathlib.Core.List.{List}
 use lib.Dec.{ltb, eqb}
 use lib.ListN.{length, getD, set}
-use lib.Ieee.{Float, nan}
-use Rattle.refusals.specs.Said.{Said}
-use Rattle.refusals.specs.Refusals.{carriedOut}
-use Rattle.memory.specs.Lists.{table, filled}
+use lib.Ieee.{Float}
+use Rattle.refusals.specs.Said.{Said, value, refused}
+use Rattle.refusals.specs.Refusals.{orElse, carriedOut}
+use Rattle.memory.specs.Lists.{filled}
 use Rattle.numbers.specs.Steps.{nought}
-use Rattle.sums_tree.specs.Tree.{tree}
+use Rattle.layouts.specs.Formats.{formatNamed}
+use Rattle.layouts.specs.declared.format.FormatK.{FormatK}
 use Rattle.stepped_shape.specs.declared.shape.Layer.{Layer}
-use Rattle.stepped_shape.specs.Layer.{chunks, pieces, place, openOf}
-use Rattle.stepped_shape.specs.Refusals.{openNo, workNo, closeNo}
-use Rattle.stepped_pieces.specs.Pieces.{worked, marked}
+use Rattle.stepped_shape.specs.Layer.{Memory, memory, chunks, pieces, place, openOf}
+use Rattle.stepped_shape.specs.Refusals.{byFormat, openRefusal, workRefusal, closeRefusal}
+use Rattle.stepped_pieces.specs.Pieces.{worked, rowMet}
 use Rattle.stepped.specs.declared.running.Progress.{Progress}
 use Rattle.stepped.specs.declared.running.Progress.the-variants as progress
 
@@ -29,77 +31,72 @@ abbrev pub noMark : ℕ → ℕ
 noMark i = 0
 
 -- `open`: the slots and the marks of every piece are cleared; surplus ones are kept
-unfoldable pub openSays : Layer → List Float → List ℕ → Said × (List Float × List ℕ)
-openSays l slots marks =
-    carriedOut (openNo l (length slots) (length marks)) (filled noSum slots (pieces l), filled noMark marks (pieces l))
-    (slots, marks)
+unfoldable pub openSays : Layer → Memory → Said (Unit {0}) × Memory
+openSays l m =
+    byFormat (formatNamed (l .format)) m (λ f.
+    carriedOut (openRefusal l (length (m .slots)) (length (m .marks)))
+    (memory (filled noSum (m .slots) (pieces l)) (filled noMark (m .marks) (pieces l))) m)
 
 -- ---- run does the next open pieces in row order, chunks rising, at most as many as its budget
 
--- slots and marks, and how many pieces were done
-pub data Work : Type 0 where
-  work : (slots : List Float) (marks : List ℕ) (done : ℕ) → Work
+-- what the memory holds then, and how many pieces were done
+pub record Work : Type 0 where
+  pub holds : Memory
+  pub done : ℕ
 
--- the slots then
-abbrev pub slotsOf : Work → List Float
-slotsOf (work slots marks done) = slots
-
--- the marks then
-abbrev pub marksOf : Work → List ℕ
-marksOf (work slots marks done) = marks
+-- the work of so many pieces, with this memory then
+abbrev pub work : Memory → ℕ → Work
+work holds done = record { holds = holds; done = done }
 
 -- one piece: worked where it is open and the budget is not spent
-unfoldable pub visit : Layer → List ℕ → List Float → (budget row c : ℕ) → Work → Work
-visit l w x budget row c (work slots marks done) =
-    cond (ltb done budget && eqb (getD marks (place l row c) 0) 0)
-    (work (worked l w x row c slots) (marked l row c marks) (done + 1))
-    (work slots marks done)
+unfoldable pub visit : FormatK → Layer → List ℕ → List Float → (budget row c : ℕ) → Work → Work
+visit f l w x budget row c k =
+    cond (ltb (k .done) budget && eqb (getD (k .holds .marks) (place l row c) 0) 0)
+    (work (worked f l w x row c (k .holds)) (k .done + 1)) k
 
 -- the first n chunks of a row
-unfoldable pub visitRow : Layer → List ℕ → List Float → (budget row n : ℕ) → Work → Work
-visitRow l w x budget row zero k = k
-visitRow l w x budget row (suc n) k = visit l w x budget row n (visitRow l w x budget row n k)
+unfoldable pub visitRow : FormatK → Layer → List ℕ → List Float → (budget row n : ℕ) → Work → Work
+visitRow f l w x budget row zero k = k
+visitRow f l w x budget row (suc n) k = visit f l w x budget row n (visitRow f l w x budget row n k)
 
 -- the first n rows
-unfoldable pub visitRows : Layer → List ℕ → List Float → (budget n : ℕ) → Work → Work
-visitRows l w x budget zero k = k
-visitRows l w x budget (suc n) k = visitRow l w x budget n (chunks l) (visitRows l w x budget n k)
+unfoldable pub visitRows : FormatK → Layer → List ℕ → List Float → (budget n : ℕ) → Work → Work
+visitRows f l w x budget zero k = k
+visitRows f l w x budget (suc n) k = visitRow f l w x budget n (chunks l) (visitRows f l w x budget n k)
 
 -- all rows, with no piece done before
-unfoldable pub runWork : Layer → List ℕ → List Float → ℕ → List Float → List ℕ → Work
-runWork l w x budget slots marks = visitRows l w x budget (l .«out_feat») (work slots marks 0)
+unfoldable pub runWork : FormatK → Layer → List ℕ → List Float → ℕ → Memory → Work
+runWork f l w x budget m = visitRows f l w x budget (l .«out_feat») (work m 0)
 
--- what run says: how many it did and how many stay open, or a number that says no
-pub data RunSaid : Type 0 where
-  ran : (done left : ℕ) → RunSaid
-  refused : ℕ → RunSaid
+-- what run returns: how many pieces it did and how many stay open
+pub record Ran : Type 0 where
+  pub done : ℕ
+  pub left : ℕ
+
+-- so many done, and so many left
+abbrev pub ran : (done left : ℕ) → Ran
+ran done left = record { done = done; left = left }
 
 -- what each answer of run says
-abbrev pub progressSays : Progress → RunSaid
-progressSays (progress.Ran done left) = ran done left
-progressSays (progress.Refused num) = refused num
-
--- A refusal returns its number and leaves all lent memory as it found it: the two counts and `new` where run did its
--- work, and `old` where it refused.
-unfoldable pub ranOut : ℕ → (done left : ℕ) → {A : Type 0} → A → A → RunSaid × A
-ranOut zero done left new old = (ran done left, new)
-ranOut (suc num) done left new old = (refused (suc num), old)
+abbrev pub progressSays : Progress → Said Ran
+progressSays (progress.Ran done left) = value (ran done left)
+progressSays (progress.Refused why) = refused why
 
 -- `run`: done is the smaller of budget and pieces open before, and left is how many pieces are open after
-unfoldable pub runSays : Layer → List ℕ → List Float → ℕ → List Float → List ℕ → RunSaid × (List Float × List ℕ)
-runSays l w x budget slots marks =
-    let after = runWork l w x budget slots marks in
-    ranOut (workNo l (length w) (length x) (length slots) (length marks)) (min budget (openOf l marks))
-    (openOf l (marksOf after)) (slotsOf after, marksOf after) (slots, marks)
+unfoldable pub runSays : Layer → List ℕ → List Float → ℕ → Memory → Said Ran × Memory
+runSays l w x budget m =
+    byFormat (formatNamed (l .format)) m (λ f.
+    let after = runWork f l w x budget m .holds in
+    carriedOut
+    (orElse (workRefusal f l (length w) (length x) (length (m .slots)) (length (m .marks)))
+    (value (ran (min budget (openOf l (m .marks))) (openOf l (after .marks)))))
+    after m)
 
 -- ---- close writes that row's output, its slots met in the tree; the slots stay as they are, and closing again is
 -- allowed
 
--- the row's slots met in the tree; an empty tree, of an in_feat of 0, is +0.0
-unfoldable pub rowMet : Layer → List Float → ℕ → Float
-rowMet l slots row = tree (table (λ c. getD slots (place l row c) nan) (chunks l))
-
 -- `close`: the row's output; the other outputs are kept
-unfoldable pub closeSays : Layer → ℕ → List Float → List ℕ → List Float → Said × List Float
-closeSays l row slots marks y = carriedOut (closeNo l (length slots) marks (length y) row)
-    (set y row (rowMet l slots row)) y
+unfoldable pub closeSays : Layer → ℕ → Memory → List Float → Said (Unit {0}) × List Float
+closeSays l row m y =
+    byFormat (formatNamed (l .format)) y (λ f.
+    carriedOut (closeRefusal l (length (m .slots)) (m .marks) (length y) row) (set y row (rowMet l (m .slots) row)) y)

@@ -1,24 +1,30 @@
 // Run: the next open pieces, as many as a budget allows.
+use layouts::FormatK;
+use layouts::Named;
+use refusals::Check;
+use refusals::Refusal;
 use stepped_pieces::work_one;
 use stepped_shape::Layer;
 use stepped_shape::chunks_of;
 use stepped_shape::count_open;
 use stepped_shape::pieces_of;
 use stepped_shape::place_of;
-use stepped_shape::work_no;
+use stepped_shape::work_refusal;
 ghost use mathlib.Core.Path.{_≡_};
 ghost use lib.ListN.{length};
-ghost use Rattle.stepped_shape.specs.Ready.{LayerReady, PieceRoom};
+ghost use Rattle.stepped_shape.specs.Layer.{memory};
+ghost use Rattle.stepped_shape.specs.Inner.{LayerReady, PieceRoom};
 ghost use Rattle.stepped.specs.Says.{work, runWork, progressSays, runSays};
 
-// What run answers: how many pieces it did and how many stay open, or a number that says no.
+// What run answers: how many pieces it did and how many stay open, or why it says no.
 pub enum Progress {
     Ran { done: usize, left: usize },
-    Refused(u32),
+    Refused(Refusal),
 }
 
 // Works the next open pieces in row order, chunks rising, at most `budget`. Returns how many were worked.
 fn work_open(
+    format: FormatK,
     l: Layer,
     w: &[u8],
     x: &[f32],
@@ -26,10 +32,11 @@ fn work_open(
     slots: &mut [f32],
     marks: &mut [u8],
 ) -> usize
-    requires { ⌜ LayerReady l (length (now w)) (length (now x))
+    requires { ⌜ LayerReady format l (length (now w)) (length (now x))
         × PieceRoom l (length (now slots)) (length (now marks)) ⌝ }
-    ensures { λ r. ⌜ work (now (slots .exit)) (now (marks .exit)) r
-        ≡ runWork l (now (w .entry)) (now (x .entry)) budget (now (slots .entry)) (now (marks .entry)) ⌝ }
+    ensures { λ r. ⌜ work (memory (now (slots .exit)) (now (marks .exit))) r
+        ≡ runWork format l (now (w .entry)) (now (x .entry)) budget
+        (memory (now (slots .entry)) (now (marks .entry))) ⌝ }
 {
     let rows = l.out_feat;
     let chunks = chunks_of(l);
@@ -41,7 +48,7 @@ fn work_open(
             }
             let at = place_of(l, row, chunk);
             if marks[at] == 0 {
-                work_one(l, w, x, row, chunk, slots, marks);
+                work_one(format, l, w, x, row, chunk, slots, marks);
                 done += 1;
             }
         }
@@ -59,14 +66,24 @@ pub fn run(
     slots: &mut [f32],
     marks: &mut [u8],
 ) -> Progress
-    ensures { λ r. ⌜ (progressSays r, (now (slots .exit), now (marks .exit)))
-        ≡ runSays l (now (w .entry)) (now (x .entry)) budget (now (slots .entry)) (now (marks .entry)) ⌝ }
+    ensures { λ r. ⌜ (progressSays r, memory (now (slots .exit)) (now (marks .exit)))
+        ≡ runSays l (now (w .entry)) (now (x .entry)) budget
+        (memory (now (slots .entry)) (now (marks .entry))) ⌝ }
 {
-    let no = work_no(l, w.len(), x.len(), slots.len(), marks.len());
-    if no != 0 {
-        return Progress::Refused(no);
+    let Named::Known(format) = layouts::format_named(l.format) else {
+        return Progress::Refused(refusals::UNKNOWN);
+    };
+    if let Check::Refused(refusal) = work_refusal(
+        format,
+        l,
+        w.len(),
+        x.len(),
+        slots.len(),
+        marks.len(),
+    ) {
+        return Progress::Refused(refusal);
     }
-    let done = work_open(l, w, x, budget, slots, marks);
+    let done = work_open(format, l, w, x, budget, slots, marks);
     let n = pieces_of(l);
     let left = count_open(&marks[..n]);
     Progress::Ran { done, left }

@@ -1,2 +1,2 @@
--- What `piece` says.
+-- What `piece` says, and what a row's slots come to.
 pub mod Pieces

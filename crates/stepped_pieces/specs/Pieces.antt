@@ -1,32 +1,39 @@
--- What `piece` says and what lent memory holds then: its own slot and its own mark, nothing else. Definitions only.
+-- What `piece` says and what lent memory holds then: its own slot and its own mark, nothing else; and what a row's slots
+-- come to. Definitions only.
+use Prim.{Unit}
 use Prim.Native.Nat.{ℕ}
 use mathlib.Core.List.{List}
-use lib.ListN.{length, set}
-use lib.Ieee.{Float}
+use lib.ListN.{length, getD, set}
+use lib.Ieee.{Float, nan}
 use Rattle.refusals.specs.Said.{Said}
 use Rattle.refusals.specs.Refusals.{carriedOut}
-use Rattle.layouts.specs.Formats.{formatOf}
+use Rattle.memory.specs.Lists.{table}
+use Rattle.layouts.specs.Formats.{formatNamed}
+use Rattle.layouts.specs.declared.format.FormatK.{FormatK}
+use Rattle.sums_tree.specs.Tree.{tree}
 use Rattle.sums.specs.Rows.{chunkAt}
 use Rattle.dots_fused_chunk.specs.Terms.{terms}
+use Rattle.layers_shape.specs.Shapes.{weightRow}
 use Rattle.stepped_shape.specs.declared.shape.Layer.{Layer}
-use Rattle.stepped_shape.specs.Layer.{place, rowOf}
-use Rattle.stepped_shape.specs.Refusals.{pieceNo}
+use Rattle.stepped_shape.specs.Layer.{Memory, memory, chunks, place}
+use Rattle.stepped_shape.specs.Refusals.{byFormat, pieceRefusal}
 
 -- the chunk sum of that row's decoded weights and the readings over the places of this chunk alone
-unfoldable pub sumAt : Layer → List ℕ → List Float → (row c : ℕ) → Float
-sumAt l w x row c = chunkAt (terms (formatOf (l .format)) x (rowOf l w row)) (l .«in_feat») c
+unfoldable pub sumAt : FormatK → Layer → List ℕ → List Float → (row c : ℕ) → Float
+sumAt f l w x row c = chunkAt (terms f x (weightRow f w (l .«in_feat») row)) (l .«in_feat») c
 
--- its own slot
-abbrev pub worked : Layer → List ℕ → List Float → (row c : ℕ) → List Float → List Float
-worked l w x row c slots = set slots (place l row c) (sumAt l w x row c)
-
--- its mark
-abbrev pub marked : Layer → (row c : ℕ) → List ℕ → List ℕ
-marked l row c marks = set marks (place l row c) 1
+-- its sum in its own slot, and its own mark
+abbrev pub worked : FormatK → Layer → List ℕ → List Float → (row c : ℕ) → Memory → Memory
+worked f l w x row c m =
+    memory (set (m .slots) (place l row c) (sumAt f l w x row c)) (set (m .marks) (place l row c) 1)
 
 -- `piece`
-unfoldable pub pieceSays : Layer → List ℕ → List Float → (row c : ℕ) → List Float → List ℕ → Said
-    × (List Float × List ℕ)
-pieceSays l w x row c slots marks =
-    carriedOut (pieceNo l (length w) (length x) (length slots) marks row c)
-    (worked l w x row c slots, marked l row c marks) (slots, marks)
+unfoldable pub pieceSays : Layer → List ℕ → List Float → (row c : ℕ) → Memory → Said (Unit {0}) × Memory
+pieceSays l w x row c m =
+    byFormat (formatNamed (l .format)) m (λ f.
+    carriedOut (pieceRefusal f l (length w) (length x) (length (m .slots)) (m .marks) row c)
+    (worked f l w x row c m) m)
+
+-- the row's slots met in the tree; an empty tree, of an in_feat of 0, is +0.0
+unfoldable pub rowMet : Layer → List Float → ℕ → Float
+rowMet l slots row = tree (table (λ c. getD slots (place l row c) nan) (chunks l))

@@ -5,15 +5,23 @@ use mathlib.Core.Bool.{cond}
 use mathlib.Core.List.{List, [], _∷_}
 use lib.Dec.{eqb}
 use lib.ListN.{take}
+use lib.Ieee.{Float}
 use Rattle.memory.specs.Lists.{part}
-use Rattle.layouts.specs.Formats.{formatOf}
-use Rattle.layers_shape.specs.Shapes.{rowBytes}
 use Rattle.sums.specs.Rows.{chunksIn}
 use Rattle.stepped_shape.specs.declared.shape.Layer.{Layer}
 
 -- the layer of a format, in_feat and out_feat
 abbrev pub layerOf : (format inFeat outFeat : ℕ) → Layer
 layerOf format inFeat outFeat = record { format = format; «in_feat» = inFeat; «out_feat» = outFeat }
+
+-- what a layer is worked in: a slot, for a sum, and a mark for each piece
+pub record Memory : Type 0 where
+  pub slots : List Float
+  pub marks : List ℕ
+
+-- the memory of these slots and marks
+abbrev pub memory : List Float → List ℕ → Memory
+memory slots marks = record { slots = slots; marks = marks }
 
 -- ---- the pieces
 
@@ -28,20 +36,6 @@ pieces l = l .«out_feat» * chunks l
 -- the place of (row, chunk) among slots and marks, row-major
 unfoldable pub place : Layer → ℕ → ℕ → ℕ
 place l row c = row * chunks l + c
-
--- ---- the weights
-
--- the bytes of a row's weights
-unfoldable pub layerRowBytes : Layer → ℕ
-layerRowBytes l = rowBytes (formatOf (l .format)) (l .«in_feat»)
-
--- the bytes of all rows' weights
-unfoldable pub weightNeed : Layer → ℕ
-weightNeed l = l .«out_feat» * layerRowBytes l
-
--- a row of the weights w
-abbrev pub rowOf : Layer → List ℕ → ℕ → List ℕ
-rowOf l w row = part w (row * layerRowBytes l) (layerRowBytes l)
 
 -- ---- the marks
 

@@ -1,4 +1,5 @@
--- Document 01's "The stepped layer": a layer's shape, what its calls refuse, and what a piece that is worked relies on.
+-- Document 01's "The stepped layer": a layer's shape and memory, what its calls refuse, and what a piece that is worked
+-- relies on.
 pub mod Layer
 pub mod Refusals
-pub mod Ready
+pub mod Inner

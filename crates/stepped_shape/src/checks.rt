@@ -1,80 +1,91 @@
-// Why a call says no, in document 01's order; 0 where it does not.
+// Why a call whose layer's format is known says no, in document 01's order.
 use crate::shape::Layer;
 use crate::shape::chunks_of;
 use crate::shape::pieces_of;
 use crate::shape::place_of;
-use crate::shape::weight_need;
+use layouts::FormatK;
+use refusals::Check;
 ghost use mathlib.Core.Path.{_≡_};
 ghost use Prim.Native.Nat.{_≤_};
 ghost use lib.ListN.{length};
-ghost use Rattle.refusals.specs.Refusals.{none};
+ghost use Rattle.refusals.specs.Said.{done, checkSays};
 ghost use Rattle.stepped_shape.specs.Layer.{openCount};
-ghost use Rattle.stepped_shape.specs.Refusals.{shapeNo, roomNo, openNo, workNo, pieceNo, closeNo};
+ghost use Rattle.stepped_shape.specs.Refusals.{
+  shapeRefusal,
+  roomRefusal,
+  openRefusal,
+  workRefusal,
+  pieceRefusal,
+  closeRefusal,
+};
 
-// The layer itself: an unknown format, a size, in_feat not a multiple of 256.
-fn shape_no(l: Layer) -> u32
-    ensures { λ r. ⌜ r ≡ shapeNo l ⌝ }
+// The layer itself: a size, in_feat not a multiple of 256.
+fn shape_refusal(l: Layer) -> Check
+    ensures { λ r. ⌜ checkSays r ≡ shapeRefusal l ⌝ }
 {
-    if !layouts::known_format(l.format) {
-        return refusals::UNKNOWN;
-    }
     if l.in_feat > refusals::MOST_IN {
-        return refusals::TOO_LARGE;
+        return Check::Refused(refusals::TOO_LARGE);
     }
     if l.out_feat > refusals::MOST_OUT {
-        return refusals::TOO_LARGE;
+        return Check::Refused(refusals::TOO_LARGE);
     }
     if l.in_feat % 256 != 0 {
-        return refusals::NOT_A_MULTIPLE;
+        return Check::Refused(refusals::NOT_A_MULTIPLE);
     }
-    0
+    Check::Passed
 }
 
 // A slot and a mark for each piece.
-fn room_no(l: Layer, slots: usize, marks: usize) -> u32
-    requires { ⌜ shapeNo l ≡ none ⌝ }
-    ensures { λ r. ⌜ r ≡ roomNo l slots marks ⌝ }
+fn room_refusal(l: Layer, slots: usize, marks: usize) -> Check
+    requires { ⌜ shapeRefusal l ≡ done ⌝ }
+    ensures { λ r. ⌜ checkSays r ≡ roomRefusal l slots marks ⌝ }
 {
     let n = pieces_of(l);
     if slots < n {
-        return refusals::ROOM_SHORT;
+        return Check::Refused(refusals::ROOM_SHORT);
     }
     if marks < n {
-        return refusals::ROOM_SHORT;
+        return Check::Refused(refusals::ROOM_SHORT);
     }
-    0
+    Check::Passed
 }
 
 // What open refuses.
-pub fn open_no(l: Layer, slots: usize, marks: usize) -> u32
-    ensures { λ r. ⌜ r ≡ openNo l slots marks ⌝ }
+pub fn open_refusal(l: Layer, slots: usize, marks: usize) -> Check
+    ensures { λ r. ⌜ checkSays r ≡ openRefusal l slots marks ⌝ }
 {
-    let no = shape_no(l);
-    if no != 0 {
-        return no;
+    if let Check::Refused(refusal) = shape_refusal(l) {
+        return Check::Refused(refusal);
     }
-    room_no(l, slots, marks)
+    room_refusal(l, slots, marks)
 }
 
 // What run refuses, and piece before it looks at its own row and chunk.
-pub fn work_no(l: Layer, weights: usize, readings: usize, slots: usize, marks: usize) -> u32
-    ensures { λ r. ⌜ r ≡ workNo l weights readings slots marks ⌝ }
+pub fn work_refusal(
+    format: FormatK,
+    l: Layer,
+    weights: usize,
+    readings: usize,
+    slots: usize,
+    marks: usize,
+) -> Check
+    ensures { λ r. ⌜ checkSays r ≡ workRefusal format l weights readings slots marks ⌝ }
 {
-    let no = shape_no(l);
-    if no != 0 {
-        return no;
+    if let Check::Refused(refusal) = shape_refusal(l) {
+        return Check::Refused(refusal);
     }
-    if weights < weight_need(l) {
-        return refusals::WEIGHTS_SHORT;
+    if weights < layers_shape::weight_bytes(format, l.in_feat, l.out_feat) {
+        return Check::Refused(refusals::WEIGHTS_SHORT);
     }
     if readings < l.in_feat {
-        return refusals::READINGS_SHORT;
+        return Check::Refused(refusals::READINGS_SHORT);
     }
-    room_no(l, slots, marks)
+    room_refusal(l, slots, marks)
 }
 
 // What piece refuses.
-pub fn piece_no(
+pub fn piece_refusal(
+    format: FormatK,
     l: Layer,
     weights: usize,
     readings: usize,
@@ -82,24 +93,30 @@ pub fn piece_no(
     marks: &[u8],
     row: usize,
     chunk: usize,
-) -> u32
-    ensures { λ r. ⌜ r ≡ pieceNo l weights readings slots (now (marks .entry)) row chunk ⌝ }
+) -> Check
+    ensures { λ r. ⌜ checkSays r ≡ pieceRefusal format l weights readings slots (now (marks .entry)) row chunk ⌝ }
 {
-    let no = work_no(l, weights, readings, slots, marks.len());
-    if no != 0 {
-        return no;
+    if let Check::Refused(refusal) = work_refusal(
+        format,
+        l,
+        weights,
+        readings,
+        slots,
+        marks.len(),
+    ) {
+        return Check::Refused(refusal);
     }
     if row >= l.out_feat {
-        return refusals::OUTSIDE;
+        return Check::Refused(refusals::OUTSIDE);
     }
     if chunk >= chunks_of(l) {
-        return refusals::OUTSIDE;
+        return Check::Refused(refusals::OUTSIDE);
     }
     let at = place_of(l, row, chunk);
     if marks[at] != 0 {
-        return refusals::ALREADY_DONE;
+        return Check::Refused(refusals::ALREADY_DONE);
     }
-    0
+    Check::Passed
 }
 
 // How many of these marks are open, at most those of a whole layer: 16 chunks of 65,536 rows. The count is of 32 bits,
@@ -120,24 +137,23 @@ pub fn count_open(marks: &[u8]) -> usize
 }
 
 // What close refuses.
-pub fn close_no(l: Layer, slots: usize, marks: &[u8], outputs: usize, row: usize) -> u32
-    ensures { λ r. ⌜ r ≡ closeNo l slots (now (marks .entry)) outputs row ⌝ }
+pub fn close_refusal(l: Layer, slots: usize, marks: &[u8], outputs: usize, row: usize) -> Check
+    ensures { λ r. ⌜ checkSays r ≡ closeRefusal l slots (now (marks .entry)) outputs row ⌝ }
 {
-    let no = open_no(l, slots, marks.len());
-    if no != 0 {
-        return no;
+    if let Check::Refused(refusal) = open_refusal(l, slots, marks.len()) {
+        return Check::Refused(refusal);
     }
     if outputs < l.out_feat {
-        return refusals::ROOM_SHORT;
+        return Check::Refused(refusals::ROOM_SHORT);
     }
     if row >= l.out_feat {
-        return refusals::OUTSIDE;
+        return Check::Refused(refusals::OUTSIDE);
     }
     let n = chunks_of(l);
     let at = row * n;
     let end = at + n;
     if count_open(&marks[at..end]) != 0 {
-        return refusals::PIECE_OPEN;
+        return Check::Refused(refusals::PIECE_OPEN);
     }
-    0
+    Check::Passed
 }

@@ -1,10 +1,10 @@
-// A layer's shape: its pieces, and where their slots, their marks and their rows' weights lie.
+// A layer's shape: its pieces, and where their slots and their marks lie.
 ghost use mathlib.Core.Path.{_≡_};
 ghost use Prim.Native.Nat.{_<_};
-ghost use Rattle.refusals.specs.Refusals.{none};
-ghost use Rattle.stepped_shape.specs.Layer.{chunks, pieces, place, layerRowBytes, weightNeed};
-ghost use Rattle.stepped_shape.specs.Refusals.{shapeNo};
-ghost use Rattle.stepped_shape.specs.Ready.{InLayer};
+ghost use Rattle.refusals.specs.Said.{done};
+ghost use Rattle.stepped_shape.specs.Layer.{chunks, pieces, place};
+ghost use Rattle.stepped_shape.specs.Refusals.{shapeRefusal};
+ghost use Rattle.stepped_shape.specs.Inner.{InLayer};
 
 // A format byte (4 is Q4_K, 6 is Q6_K), and how many readings go in and outputs come out.
 pub struct Layer {
@@ -15,7 +15,7 @@ pub struct Layer {
 
 // The chunks of a row.
 pub fn chunks_of(l: Layer) -> usize
-    requires { ⌜ shapeNo l ≡ none ⌝ }
+    requires { ⌜ shapeRefusal l ≡ done ⌝ }
     ensures { λ r. ⌜ r ≡ chunks l ⌝ }
 {
     sums::chunks_in(l.in_feat)
@@ -23,7 +23,7 @@ pub fn chunks_of(l: Layer) -> usize
 
 // The piece count.
 pub fn pieces_of(l: Layer) -> usize
-    requires { ⌜ shapeNo l ≡ none ⌝ }
+    requires { ⌜ shapeRefusal l ≡ done ⌝ }
     ensures { λ r. ⌜ r ≡ pieces l ⌝ }
 {
     l.out_feat * chunks_of(l)
@@ -31,24 +31,8 @@ pub fn pieces_of(l: Layer) -> usize
 
 // The place of (row, chunk) among slots and marks.
 pub fn place_of(l: Layer, row: usize, chunk: usize) -> usize
-    requires { ⌜ (shapeNo l ≡ none) × InLayer l row chunk ⌝ }
+    requires { ⌜ (shapeRefusal l ≡ done) × InLayer l row chunk ⌝ }
     ensures { λ r. ⌜ (r ≡ place l row chunk) × (r < pieces l) ⌝ }
 {
     row * chunks_of(l) + chunk
-}
-
-// The bytes of a row's weights.
-pub fn row_bytes(l: Layer) -> usize
-    requires { ⌜ shapeNo l ≡ none ⌝ }
-    ensures { λ r. ⌜ r ≡ layerRowBytes l ⌝ }
-{
-    layers_shape::row_bytes(layouts::format_of(l.format), l.in_feat)
-}
-
-// The bytes of all rows' weights.
-pub(crate) fn weight_need(l: Layer) -> usize
-    requires { ⌜ shapeNo l ≡ none ⌝ }
-    ensures { λ r. ⌜ r ≡ weightNeed l ⌝ }
-{
-    l.out_feat * row_bytes(l)
 }

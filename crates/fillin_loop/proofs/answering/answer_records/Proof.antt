@@ -7,17 +7,17 @@ use mathlib.Core.List.{List}
 use lib.ListN.{length, take, drop, length-take, length-drop}
 use lib.Seq.{length-take-le}
 use Rattle.frames.specs.declared.frame.Next.the-variants.{Bytes, More}
-use Rattle.fillin_answer.specs.Kept.{Sound}
+use Rattle.fillin_window.specs.Windows.{Sound}
 use Rattle.fillin_answer.proofs.Begun.{begins}
 use Rattle.frames.proofs.Pieces.{next-within, more-short}
 use Rattle.fillin_loop.specs.declared.input.Unread.{Unread}
-use Rattle.fillin_loop.specs.Input.{unreadIn, Within}
+use Rattle.fillin_loop.specs.Input.{unreadIn, InBuffer}
 use Rattle.fillin_loop.proofs.answering.answer_records.Statement.{statement}
 use Rattle.fillin_loop.proofs.answering.answer_records.Tie as tie
 
 abbrev Inv-loop : tie.InvT-loop
 Inv-loop desk buf₀ weights₀ line₀ st₀ progress₀ unread₀ counter₀ buf weights line st progress unread counter =
-    Sound st × (counter ≤ 2 ^ 48) × (st .offset ≤ counter * 32772) × (st .answered + st .refused ≤ counter) × (length buf ≡ length buf₀) × (length weights ≡ length weights₀) × (length line ≡ length line₀) × Within buf unread
+    Sound (st .layer) (st .«weight_bytes») × (counter ≤ 2 ^ 48) × (st .offset ≤ counter * 32772) × (st .answered + st .refused ≤ counter) × (length buf ≡ length buf₀) × (length weights ≡ length weights₀) × (length line ≡ length line₀) × InBuffer buf unread
 
 abbrev μ-loop : tie.MeasureT-loop
 μ-loop desk buf₀ weights₀ line₀ st₀ progress₀ unread₀ counter₀ buf weights line st progress unread counter = 2 ^ 48 - counter
@@ -143,7 +143,7 @@ answer-one-requires c κs =
     let turn = k .before .before .before .loop-test .taken in
     let size = within k _ (c .before .before .before .before .before .size .given .1) in
     record {
-      held = v .0;
+      sound = v .0;
       weights-fit = omega (arith, v .5, room l);
       line-fits = omega (arith, v .6, room l);
       offset-fits = part-fits (l .loop .st .offset) (l .loop .buf) _ _ 32772 (size .1) (omega (arith, v .2, turn));
@@ -207,7 +207,7 @@ loop-again-2 : tie.Need-loop-again-2 Inv-loop μ-loop
 loop-again-2 c =
     let a = c .before .before .before .before .before .before .before .before .before in
     let v = in-turn a .loop .inv in
-    (a .answer-one .ensures .held, omega (arith, turns a), offset a, counts a, v .4, a .answer-one .kept .1 .1 .1 .0 ∙ v .5, a .answer-one .kept .1 .1 .1 .1 .0 ∙ v .6, record { in-order = size a .0; inside = v .7 .inside })
+    (a .answer-one .ensures .sound, omega (arith, turns a), offset a, counts a, v .4, a .answer-one .kept .1 .1 .1 .0 ∙ v .5, a .answer-one .kept .1 .1 .1 .1 .0 ∙ v .6, record { in-order = size a .0; inside = v .7 .inside })
 
 finish-requires-3 : tie.Need-finish-requires-3 Inv-loop μ-loop
 finish-requires-3 c κs = tt

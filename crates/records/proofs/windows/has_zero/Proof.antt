@@ -10,10 +10,10 @@ use Rattle.records.proofs.windows.has_zero.Statement.{statement}
 use Rattle.records.proofs.windows.has_zero.Tie as tie
 
 abbrev Inv-loop : tie.InvT-loop
-Inv-loop p n k₀ k = (k ≤ n) × (hasZero p k ≡ false)
+Inv-loop bytes n k₀ k = (k ≤ n) × (hasZero bytes k ≡ false)
 
 abbrev μ-loop : tie.MeasureT-loop
-μ-loop p n k₀ k = n - k
+μ-loop bytes n k₀ k = n - k
 
 loop-holds : tie.Need-loop-holds Inv-loop μ-loop
 unfolding hasZero
@@ -29,7 +29,7 @@ returns : tie.Need-returns Inv-loop μ-loop
 returns c =
     let k = c .before .before .before in
     let a = k .before .before .args in
-    sym (zero-found (now (a .p)) (k .loop .k) (a .n) (c .before .before .loop-test .taken) (sym (c .before .bits-at .ensures) ∙ c .if1 .taken))
+    sym (zero-found (now (a .bytes)) (k .loop .k) (a .n) (c .before .before .loop-test .taken) (sym (c .before .bits-at .ensures) ∙ c .if1 .taken))
 
 add-k : tie.Need-add-k Inv-loop μ-loop
 add-k c = omega arith
@@ -40,7 +40,7 @@ loop-less c = omega arith
 loop-again : tie.Need-loop-again Inv-loop μ-loop
 loop-again c =
     let k = c .before .before .before in
-    (omega arith, zero-more (now (k .before .before .args .p)) (k .loop .k) (k .loop .inv .1) (λ e. c .if1 .left (c .before .bits-at .ensures ∙ e)))
+    (omega arith, zero-more (now (k .before .before .args .bytes)) (k .loop .k) (k .loop .inv .1) (λ e. c .if1 .left (c .before .bits-at .ensures ∙ e)))
 
 returns-2 : tie.Need-returns-2 Inv-loop μ-loop
 returns-2 c =

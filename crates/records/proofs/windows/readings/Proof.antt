@@ -13,10 +13,10 @@ use Rattle.records.proofs.windows.readings.Statement.{statement}
 use Rattle.records.proofs.windows.readings.Tie as tie
 
 abbrev Inv-loop : tie.InvT-loop
-Inv-loop p x₀ k₀ x k = Filling (readingAt p) x₀ (length x₀) x k
+Inv-loop bytes x₀ k₀ x k = Filling (readingAt bytes) x₀ (length x₀) x k
 
 abbrev μ-loop : tie.MeasureT-loop
-μ-loop p x₀ k₀ x k = length x₀ - k
+μ-loop bytes x₀ k₀ x k = length x₀ - k
 
 loop-holds : tie.Need-loop-holds Inv-loop μ-loop
 loop-holds c = filling-start _ _ _ refl

@@ -5,26 +5,29 @@ use mathlib.Core.Logic.{⊎-elim}
 use mathlib.Core.Path.{_≡_, refl, sym, _∙_, ap}
 use Prim.Native.Nat.{ℕ, _≤_, _<_, _-_}
 use denote.Ref.{now}
-use Rattle.stepped_shape.specs.Ready.{InLayer}
+use Rattle.stepped_shape.specs.Layer.{memory}
+use Rattle.stepped_shape.specs.Inner.{InLayer}
 use Rattle.stepped_shape.proofs.Shapes.{place-within}
-use Rattle.stepped.specs.Says.{Work, work, visitRow, visitRows, runWork}
+use Rattle.stepped.specs.Says.{work, visitRow, visitRows, runWork}
 use Rattle.stepped.proofs.Runs.{Kept, kept-open, kept-done, kept-row, stopped, ne-lt}
 use Rattle.stepped.proofs.running.work_open.Statement.{statement}
 use Rattle.stepped.proofs.running.work_open.Tie as tie
 
 abbrev Inv-loop : tie.InvT-loop
-Inv-loop l w x budget slots₀ marks₀ rows chunks done₀ row chunk₀ slots marks done chunk =
-    (chunk ≤ chunks) × Kept budget slots₀ marks₀ slots marks done (visitRow l w x budget row chunk (work slots₀ marks₀ done₀))
+Inv-loop format l w x budget slots₀ marks₀ rows chunks done₀ row chunk₀ slots marks done chunk =
+    let m = memory slots₀ marks₀ in
+    (chunk ≤ chunks) × Kept budget m (work (memory slots marks) done) (visitRow format l w x budget row chunk (work m done₀))
 
 abbrev μ-loop : tie.MeasureT-loop
-μ-loop l w x budget slots₀ marks₀ rows chunks done₀ row chunk₀ slots marks done chunk = chunks - chunk
+μ-loop format l w x budget slots₀ marks₀ rows chunks done₀ row chunk₀ slots marks done chunk = chunks - chunk
 
 abbrev Inv-rows : tie.InvT-rows
-Inv-rows l w x budget slots₀ marks₀ rows chunks done₀ row₀ slots marks done row =
-    (row ≤ rows) × Kept budget slots₀ marks₀ slots marks done (visitRows l w x budget row (work slots₀ marks₀ 0))
+Inv-rows format l w x budget slots₀ marks₀ rows chunks done₀ row₀ slots marks done row =
+    let m = memory slots₀ marks₀ in
+    (row ≤ rows) × Kept budget m (work (memory slots marks) done) (visitRows format l w x budget row (work m 0))
 
 abbrev μ-rows : tie.MeasureT-rows
-μ-rows l w x budget slots₀ marks₀ rows chunks done₀ row₀ slots marks done row = rows - row
+μ-rows format l w x budget slots₀ marks₀ rows chunks done₀ row₀ slots marks done row = rows - row
 
 chunks-of-requires : tie.Need-chunks-of-requires Inv-loop μ-loop Inv-rows μ-rows
 chunks-of-requires c κs = search needs
@@ -90,16 +93,15 @@ loop-again c =
     let a = start e .args in
     let o = outer e .rows in
     let i = inner e .loop in
-    let k = work (o .slots) (o .marks) (o .done) in
+    let b = work (memory (o .slots) (o .marks)) (o .done) in
+    let k = work (memory (i .slots) (i .marks)) (i .done) in
     let at = c .before .before .place-of .ensures .0 in (
       omega arith,
       ⊎-elim
-          (λ q. simp (q .8, q .9, q .10, q .3 .ensures .0, q .3 .ensures .1)
-          (kept-open (a .l) (now (a .w)) (now (a .x)) (a .budget) (o .slots) (o .marks) (i .slots) (i .marks) (i .done) (o .row) (i .chunk) k
-          (i .inv .1) (fewer e) (simp at at (q .0 .taken))))
+          (λ q. simp (q .8, q .9, q .10, q .3 .ensures)
+          (kept-open (a .format) (a .l) (now (a .w)) (now (a .x)) (a .budget) (b .holds) k (o .row) (i .chunk) b (i .inv .1) (fewer e) (simp at at (q .0 .taken))))
           (λ q. simp (q .1, q .2, q .3)
-          (kept-done (a .l) (now (a .w)) (now (a .x)) (a .budget) (o .slots) (o .marks) (i .slots) (i .marks) (i .done) (o .row) (i .chunk) k
-          (i .inv .1) (fewer e) (simp at at (q .0 .left))))
+          (kept-done (a .format) (a .l) (now (a .w)) (now (a .x)) (a .budget) (b .holds) k (o .row) (i .chunk) b (i .inv .1) (fewer e) (simp at at (q .0 .left))))
           (c .if2 .came),
     )
 
@@ -116,8 +118,7 @@ rows-again c =
     let a = o .before .before .before .before .before .before .args in
     let full : i .chunk ≡ o .before .chunks-of .result = omega arith in (
       omega arith,
-      kept-row (a .l) (now (a .w)) (now (a .x)) (a .budget) (now (a .slots)) (now (a .marks)) (o .rows .slots) (o .rows .marks) (o .rows .done)
-          (i .slots) (i .marks) (i .done) (o .rows .row) (i .chunk) (work (now (a .slots)) (now (a .marks)) 0)
+      kept-row (a .format) (a .l) (now (a .w)) (now (a .x)) (a .budget) _ _ _ (o .rows .row) (i .chunk) _
           (o .rows .inv .1) (full ∙ o .before .chunks-of .ensures) (i .inv .1),
     )
 
@@ -146,14 +147,10 @@ returns-2 c =
     let i = c .before .before in
     let o = i .before .before in
     let a = o .before .before .before .before .before .before .args in
-    let k = work (now (a .slots)) (now (a .marks)) 0 in
-    let e : work (i .loop .slots) (i .loop .marks) (i .loop .done) ≡ visitRow (a .l) (now (a .w)) (now (a .x)) (a .budget) (o .rows .row) (i .loop .chunk)
-    (visitRows (a .l) (now (a .w)) (now (a .x)) (a .budget) (o .rows .row) k)
-    = i .loop .inv .1 .state ∙ ap (λ (u : Work). visitRow (a .l) (now (a .w)) (now (a .x)) (a .budget) (o .rows .row) (i .loop .chunk) u) (o .rows .inv .1 .state) in
-    let d : work (i .loop .slots) (i .loop .marks) (i .loop .done) ≡ work (i .loop .slots) (i .loop .marks) (a .budget)
-    = ap (λ (n : ℕ). work (i .loop .slots) (i .loop .marks) n) (c .if1 .taken) in
-    d ∙ sym (stopped (a .l) (now (a .w)) (now (a .x)) (a .budget) (a .l .«out_feat») (o .rows .row) (i .loop .chunk) k (i .loop .slots) (i .loop .marks)
-    (omega arith) (omega (arith, o .before .chunks-of .ensures)) (sym e ∙ d))
+    let e = i .loop .inv .1 .state ∙ ap (visitRow (a .format) (a .l) (now (a .w)) (now (a .x)) (a .budget) (o .rows .row) (i .loop .chunk)) (o .rows .inv .1 .state) in
+    sym
+    (stopped (a .format) (a .l) (now (a .w)) (now (a .x)) (a .budget) _ (omega arith) (a .l .«out_feat») (o .rows .row) (i .loop .chunk) _
+    (omega arith) (omega (arith, o .before .chunks-of .ensures)) (sym e))
 
 pub work-open-spec : {M : Type 1} → statement M
 work-open-spec =

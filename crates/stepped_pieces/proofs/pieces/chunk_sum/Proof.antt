@@ -7,36 +7,33 @@ use Prim.Native.Nat.{ℕ, _≤_, _+_, _*_}
 use lib.ListN.{length}
 use denote.Ref.{now}
 use Rattle.memory.proofs.Filled.{part-length}
-use Rattle.memory.proofs.Parts.{lent-part}
-use Rattle.layouts.specs.declared.format.FormatK.{FormatK}
+use Rattle.memory.proofs.Parts.{within, lent-part}
 use Rattle.sums.specs.Rows.{chunkAt}
 use Rattle.dots_fused_chunk.specs.Terms.{terms}
-use Rattle.stepped_shape.specs.Layer.{chunks, layerRowBytes, rowOf}
-use Rattle.stepped_shape.proofs.Shapes.{shaped, bytes-within, row-enough}
+use Rattle.layers_shape.specs.Shapes.{rowBytes}
+use Rattle.stepped_shape.specs.Layer.{chunks}
+use Rattle.stepped_shape.proofs.Shapes.{shaped, row-enough}
 use Rattle.stepped_pieces.specs.Pieces.{sumAt}
 use Rattle.stepped_pieces.proofs.pieces.chunk_sum.Statement.{statement}
 use Rattle.stepped_pieces.proofs.pieces.chunk_sum.Tie as tie
 
-row-bytes-requires : tie.Need-row-bytes-requires
-row-bytes-requires c κs = search needs
-
 abbrev start : tie.After-row-bytes → tie.Start
 start c = c .before .before .before
+
+row-bytes-requires : tie.Need-row-bytes-requires
+row-bytes-requires c κs = shaped _ (c .before .before .pre .0 .shape) .inputs
 
 -- the row's bytes lie within the weights
 row-in : (c : tie.After-row-bytes) → let a = start c .args in a .row * c .row-bytes .result + c .row-bytes .result ≤ length (now (a .w))
 row-in c =
     let t = start c in
-    simp (c .row-bytes .ensures) (bytes-within (t .args .l) (t .args .row) (length (now (t .args .w))) (t .pre .1 .row-in) (t .pre .0 .weights-enough))
+    simp (c .row-bytes .ensures) (within (t .args .row) (rowBytes (t .args .format) (t .args .l .«in_feat»)) (t .args .l .«out_feat») (length (now (t .args .w))) (t .pre .1 .row-in) (t .pre .0 .weights-enough))
 
 mul-from : tie.Need-mul-from
 mul-from c = omega (arith, row-in c)
 
 add-to : tie.Need-add-to
 add-to c = omega (arith, row-in c)
-
-format-of-requires : tie.Need-format-of-requires
-format-of-requires c κs = shaped _ (start c .pre .0 .shape) .known
 
 sub-chunk-dot : tie.Need-sub-chunk-dot
 sub-chunk-dot c = search needs
@@ -45,31 +42,29 @@ part-chunk-dot-start : tie.Need-part-chunk-dot-start
 part-chunk-dot-start c = search needs
 
 part-chunk-dot-end : tie.Need-part-chunk-dot-end
-part-chunk-dot-end c = omega (arith, row-in (c .before))
+part-chunk-dot-end c = omega (arith, row-in c)
 
 chunk-dot-requires : tie.Need-chunk-dot-requires
 unfolding chunks
 chunk-dot-requires c κs =
-    let f = c .before in
-    let b = f .before in
+    let b = c .before in
     let t = start b in
     let a = t .args in
     let size = b .row-bytes .result in (
       shaped _ (t .pre .0 .shape) .inputs,
       t .pre .0 .readings-enough,
-      row-enough (a .l) (t .pre .0 .shape) _ _ (f .format-of .ensures) (part-length (now (a .w)) (a .row * size) size (a .row * size + size) refl (row-in b) ∙ b .row-bytes .ensures),
+      row-enough (a .l) (t .pre .0 .shape) (a .format) _ (part-length (now (a .w)) (a .row * size) size (a .row * size + size) refl (row-in b) ∙ b .row-bytes .ensures),
       t .pre .1 .chunk-in,
     )
 
 returns : tie.Need-returns
 unfolding sumAt
 returns c =
-    let f = c .before .before in
-    let b = f .before in
+    let b = c .before .before in
     let a = start b .args in
     c .chunk-dot .ensures
-    ∙ ap (λ (v : List ℕ). chunkAt (terms (f .format-of .result) (now (a .x)) v) (a .l .«in_feat») (a .chunk)) (lent-part (now (a .w)) (a .row) (b .row-bytes .result) (layerRowBytes (a .l)) (b .row-bytes .ensures))
-    ∙ ap (λ (k : FormatK). chunkAt (terms k (now (a .x)) (rowOf (a .l) (now (a .w)) (a .row))) (a .l .«in_feat») (a .chunk)) (f .format-of .ensures)
+    ∙ ap (λ (v : List ℕ). chunkAt (terms (a .format) (now (a .x)) v) (a .l .«in_feat») (a .chunk))
+    (lent-part (now (a .w)) (a .row) (b .row-bytes .result) (rowBytes (a .format) (a .l .«in_feat»)) (b .row-bytes .ensures))
 
 pub chunk-sum-spec : {M : Type 1} → statement M
-chunk-sum-spec = tie.close (tie.spec row-bytes-requires mul-from add-to format-of-requires sub-chunk-dot part-chunk-dot-start part-chunk-dot-end chunk-dot-requires returns)
+chunk-sum-spec = tie.close (tie.spec row-bytes-requires mul-from add-to sub-chunk-dot part-chunk-dot-start part-chunk-dot-end chunk-dot-requires returns)

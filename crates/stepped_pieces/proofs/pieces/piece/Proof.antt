@@ -1,32 +1,49 @@
 -- `pieces::piece` meets its contract: a refusal, or one piece worked. Assumes nothing.
 use borrow.Author.Needs.{needs}
-use mathlib.Core.Path.{_≡_, sym, _∙_}
-use lib.ListN.{length}
-use denote.Ref.{now}
-use Rattle.stepped_shape.specs.Refusals.{pieceNo}
+use mathlib.Core.Path.{_∙_}
+use Rattle.refusals.proofs.Laws.{check-passed, refused-out, done-out}
 use Rattle.stepped_shape.proofs.Shapes.{pieceable}
+use Rattle.stepped_shape.proofs.Says.{by-unknown, by-known}
 use Rattle.stepped_pieces.specs.Pieces.{pieceSays}
-use Rattle.stepped_shape.proofs.Answers.{says-refused, says-done}
 use Rattle.stepped_pieces.proofs.pieces.piece.Statement.{statement}
 use Rattle.stepped_pieces.proofs.pieces.piece.Tie as tie
 
-piece-no-requires : tie.Need-piece-no-requires
-piece-no-requires c κs = search needs
+format-named-requires : tie.Need-format-named-requires
+format-named-requires c κs = search needs
+
+enum-known-format : tie.Need-enum-known-format
+enum-known-format c = search needs
+
+enum-told : tie.Need-enum-told
+enum-told c = search needs
+
+returns : tie.Need-returns
+unfolding pieceSays
+returns c = by-unknown _ _ (c .before .before .format-named .ensures) (c .enum-told .given .1)
+
+piece-refusal-requires : tie.Need-piece-refusal-requires
+piece-refusal-requires c κs = search needs
+
+enum-known-refusal : tie.Need-enum-known-refusal
+enum-known-refusal c = search needs
 
 same-length : tie.Need-same-length
 same-length c = search needs
 
-returns : tie.Need-returns
+returns-2 : tie.Need-returns-2
 unfolding pieceSays
-returns c = says-refused _ _ _ _ (c .before .piece-no .ensures) (c .if1 .taken)
+returns-2 c =
+    let p = c .before .before .before in
+    let f = p .before .before .before in
+    refused-out _ _ (p .piece-refusal .ensures) (c .before .refusal .given .1) ∙ by-known _ _ (f .before .before .format-named .ensures) (f .format .given .1)
 
-able : (c : tie.Else1) → let a = c .before .before .before .before .before .before .before .args in
-    pieceNo (a .l) (length (now (a .w))) (length (now (a .x))) (length (now (a .slots))) (now (a .marks)) (a .row) (a .chunk) ≡ 0
-able c = sym (c .before .piece-no .ensures) ∙ c .if1 .left
+enum-told-2 : tie.Need-enum-told-2
+enum-told-2 c = search needs
 
 work-one-requires : tie.Need-work-one-requires
 work-one-requires c κs =
-    let p = pieceable _ _ _ _ _ _ _ (able (c .before .before)) in
+    let e = c .before .before in
+    let p = pieceable _ _ _ _ _ _ _ _ (check-passed (e .before .before .piece-refusal .ensures) (e .enum-told2 .given .1)) in
     (p .able .ready, p .able .has-room, p .inside)
 
 same-length-2 : tie.Need-same-length-2
@@ -35,21 +52,30 @@ same-length-2 c = search needs
 same-length-3 : tie.Need-same-length-3
 same-length-3 c = search needs
 
-returns-2 : tie.Need-returns-2
+returns-3 : tie.Need-returns-3
 unfolding pieceSays
-returns-2 c =
+returns-3 c =
     let k = c .before .before .before .before in
     let e = k .before .before .before in
-    says-done _ _ _ _ (e .before .piece-no .ensures) _ (e .if1 .left) (cc (k .work-one .ensures .0, k .work-one .ensures .1))
+    let p = e .before .before in
+    let f = p .before .before .before in
+    rw (k .work-one .ensures)
+    (done-out _ _ (p .piece-refusal .ensures) (e .enum-told2 .given .1) ∙ by-known _ _ (f .before .before .format-named .ensures) (f .format .given .1))
 
 pub piece-spec : {M : Type 1} → statement M
 piece-spec =
     tie.close
     (tie.spec
-    piece-no-requires
-    same-length
+    format-named-requires
+    enum-known-format
+    enum-told
     returns
+    piece-refusal-requires
+    enum-known-refusal
+    same-length
+    returns-2
+    enum-told-2
     work-one-requires
     same-length-2
     same-length-3
-    returns-2)
+    returns-3)

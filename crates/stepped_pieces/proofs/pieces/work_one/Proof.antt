@@ -25,7 +25,7 @@ same-length-2 : tie.Need-same-length-2
 same-length-2 c = search needs
 
 returns : tie.Need-returns
-returns c = let at = c .before .place-of .ensures .0 in (simp (at, c .chunk-sum .ensures), simp at)
+returns c = let at = c .before .place-of .ensures .0 in simp (at, c .chunk-sum .ensures)
 
 pub work-one-spec : {M : Type 1} → statement M
 work-one-spec =
