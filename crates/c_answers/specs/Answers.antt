@@ -1,22 +1,23 @@
--- How C is handed what a call says: as a number that is returned, and a value that goes through a pointer. Definitions
+-- How C is handed what a call says: a number is returned, and what the call gives goes through pointers. Definitions
 -- only.
 use Prim.Native.Nat.{ℕ}
-use lib.Ieee.{Float}
-use Rattle.refusals.specs.Said.{Said, value, done, refused}
+use Rattle.refusals.specs.Said.{Said, value, refused}
 
--- what is returned: 0 for a value and for work that is done, and otherwise the number that says no
-unfoldable pub numberOf : Said → ℕ
-numberOf (value v) = 0
-numberOf done = 0
-numberOf (refused num) = num
+-- what is returned: 0, or the number that says no
+unfoldable pub numberOf : {A : Type 0} → Said A → ℕ
+numberOf (value a) = 0
+numberOf (refused why) = why .number
 
 -- what is returned of a call that fills lent memory, beside what that memory holds then
-unfoldable pub numbered : {A : Type 0} → Said × A → ℕ × A
+unfoldable pub numbered : {A M : Type 0} → Said A × M → ℕ × M
 numbered (says, memory) = (numberOf says, memory)
 
--- what is returned of a call that works out a value, beside what stands behind the pointer then: the value, and where
--- there is none what stood there
-unfoldable pub laidOut : Said → Float → ℕ × Float
-laidOut (value v) old = (0, v)
-laidOut done old = (0, old)
-laidOut (refused num) old = (num, old)
+-- what is returned, beside what stands behind the pointers then: what the call gives, and where it refused what stood
+-- there
+unfoldable pub laidOut : {A : Type 0} → Said A → A → ℕ × A
+laidOut (value a) old = (0, a)
+laidOut (refused why) old = (why .number, old)
+
+-- the same, beside what lent memory holds then
+unfoldable pub laidOutBeside : {A M : Type 0} → Said A × M → A → ℕ × (A × M)
+laidOutBeside (says, memory) old = let handed = laidOut says old in (handed .0, (handed .1, memory))

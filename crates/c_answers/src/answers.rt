@@ -11,7 +11,7 @@ pub fn number_of(outcome: Outcome) -> u32
 {
     match outcome {
         Outcome::Done => 0,
-        Outcome::Refused(number) => number,
+        Outcome::Refused(refusal) => refusal.number,
     }
 }
 
@@ -24,6 +24,6 @@ pub fn lay_out(answer: Answer, value: &mut f32) -> u32
             *value = v;
             0
         }
-        Answer::Refused(number) => number,
+        Answer::Refused(refusal) => refusal.number,
     }
 }

@@ -1,8 +1,11 @@
 // How an activation block is handed to C, and taken from it: as three places, its scale, its quants and its sums.
 use dots_activation::Q8Block;
 use dots_activation::Quantized;
+use refusals::Check;
 ghost use mathlib.Core.Path.{_≡_};
-ghost use Rattle.c_answers.specs.Blocks.{blockIn, blockLaidOut};
+ghost use Rattle.dots_activation.specs.Blocks.{quantizedSays};
+ghost use Rattle.c_answers.specs.Answers.{laidOut};
+ghost use Rattle.c_answers.specs.Blocks.{blockIn};
 
 // The block of three places that C lends.
 pub fn block_in(d: f32, qs: &[i8; 256], bsums: &[i32; 8]) -> Q8Block
@@ -20,11 +23,11 @@ pub fn block_in(d: f32, qs: &[i8; 256], bsums: &[i32; 8]) -> Q8Block
 // The number of a call that makes a block, which is stored in its three places where it was made.
 pub fn lay_out_block(made: Quantized, d: &mut f32, qs: &mut [i8; 256], bsums: &mut [i32; 8]) -> u32
     ensures { λ r. ⌜ (r, blockIn (now (d .exit)) (now (qs .exit)) (now (bsums .exit)))
-        ≡ blockLaidOut made (blockIn (now (d .entry)) (now (qs .entry)) (now (bsums .entry))) ⌝ }
+        ≡ laidOut (quantizedSays made) (blockIn (now (d .entry)) (now (qs .entry)) (now (bsums .entry))) ⌝ }
 {
-    let no = made.no;
-    if no != 0 {
-        return no;
+    let checked = made.checked;
+    if let Check::Refused(refusal) = checked {
+        return refusal.number;
     }
     let block = made.block;
     let quants = block.qs;

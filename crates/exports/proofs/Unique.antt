@@ -1,9 +1,10 @@
 -- Each call has one answer: at the same arguments its contract holds of no two, and of no two of what it leaves in lent memory. Assumes nothing.
-use Prim.Native.Nat.{ℕ}
 use mathlib.Core.List.{List}
 use lib.Ieee.{Float}
 use denote.Ref.{now}
 use Rattle.refusals.proofs.Once.{OneResult, OneCall, same, both}
+use Rattle.stepped_shape.specs.Layer.{Memory, memory}
+use Rattle.stepped.specs.Says.{Ran, ran}
 use Rattle.c_answers.specs.Blocks.{blockIn}
 use Rattle.exports.proofs.activation_blocks.jambharrow_quantize_block_q8.Reads as quantize-block-q8
 use Rattle.exports.proofs.activation_blocks.jambharrow_dot_q4k_q8_block.Reads as dot-q4k-q8-block
@@ -125,14 +126,14 @@ pub linear-q4-0-cpu-once : OneCall {M = List Float × List Float} linear-q4-0-cp
 linear-q4-0-cpu-once κs a x y s t h k = both h k
 
 -- the number, and the slots and marks that are left
-pub open-once : OneCall {M = List Float × List ℕ} opening.Post (λ κs s. (now (s .1 .1 .1 .0), now (s .1 .1 .1 .1 .0)))
+pub open-once : OneCall opening.Post (λ κs s. memory (now (s .1 .1 .1 .0)) (now (s .1 .1 .1 .1 .0)))
 open-once κs a x y s t h k = both h k
 
-pub piece-once : OneCall {M = List Float × List ℕ} piece.Post (λ κs s. (now (s .1 .1 .1 .1 .1 .1 .1 .0), now (s .1 .1 .1 .1 .1 .1 .1 .1 .0)))
+pub piece-once : OneCall piece.Post (λ κs s. memory (now (s .1 .1 .1 .1 .1 .1 .1 .0)) (now (s .1 .1 .1 .1 .1 .1 .1 .1 .0)))
 piece-once κs a x y s t h k = both h k
 
 -- the number, and the two counts, the slots and the marks that are left
-pub run-once : OneCall {M = (ℕ × ℕ) × (List Float × List ℕ)} running.Post (λ κs s. ((now (s .1 .1 .1 .1 .1 .1 .1 .1 .0), now (s .1 .1 .1 .1 .1 .1 .1 .1 .1 .0)), (now (s .1 .1 .1 .1 .1 .1 .0), now (s .1 .1 .1 .1 .1 .1 .1 .0))))
+pub run-once : OneCall {M = Ran × Memory} running.Post (λ κs s. (ran (now (s .1 .1 .1 .1 .1 .1 .1 .1 .0)) (now (s .1 .1 .1 .1 .1 .1 .1 .1 .1 .0)), memory (now (s .1 .1 .1 .1 .1 .1 .0)) (now (s .1 .1 .1 .1 .1 .1 .1 .0))))
 run-once κs a x y s t h k = both h k
 
 pub close-once : OneCall closing.Post (λ κs s. now (s .1 .1 .1 .1 .1 .1 .0))

@@ -2,12 +2,13 @@
 use c_answers::block_in;
 use c_answers::lay_out;
 use c_answers::lay_out_block;
+use layouts::FormatK;
 ghost use mathlib.Core.Path.{_≡_};
-ghost use Rattle.dots_activation.specs.Blocks.{quantized};
-ghost use Rattle.dots_integer.specs.Dots.{dotQ4kSays, dotQ6kSays};
+ghost use Rattle.dots_activation.specs.Blocks.{quantizeSays};
+ghost use Rattle.dots_integer.specs.Dots.{blockDotSays};
 ghost use Rattle.dots_integer_row.specs.Rows.{integerSays};
 ghost use Rattle.c_answers.specs.Answers.{laidOut};
-ghost use Rattle.c_answers.specs.Blocks.{blockIn, blockLaidOut};
+ghost use Rattle.c_answers.specs.Blocks.{blockIn};
 
 // `dots_activation::quantize_block_q8`, for C.
 #[no_mangle]
@@ -18,7 +19,7 @@ pub extern "C" fn jambharrow_quantize_block_q8(
     bsums: &mut [i32; 8],
 ) -> u32
     ensures { λ r. ⌜ (r, blockIn (now (d .exit)) (now (qs .exit)) (now (bsums .exit)))
-        ≡ blockLaidOut (quantized (now (x .entry)))
+        ≡ laidOut (quantizeSays (now (x .entry)))
         (blockIn (now (d .entry)) (now (qs .entry)) (now (bsums .entry))) ⌝ }
 {
     lay_out_block(dots_activation::quantize_block_q8(x), d, qs, bsums)
@@ -35,7 +36,7 @@ pub extern "C" fn jambharrow_dot_q4k_q8_block(
     value: &mut f32,
 ) -> u32
     ensures { λ r. ⌜ (r, now (value .exit))
-        ≡ laidOut (dotQ4kSays (now (w .entry)) (blockIn d (now (qs .entry)) (now (bsums .entry))) n)
+        ≡ laidOut (blockDotSays FormatK.Q4K (now (w .entry)) (blockIn d (now (qs .entry)) (now (bsums .entry))) n)
         (now (value .entry)) ⌝ }
 {
     lay_out(
@@ -55,7 +56,7 @@ pub extern "C" fn jambharrow_dot_q6k_q8_block(
     value: &mut f32,
 ) -> u32
     ensures { λ r. ⌜ (r, now (value .exit))
-        ≡ laidOut (dotQ6kSays (now (w .entry)) (blockIn d (now (qs .entry)) (now (bsums .entry))) n)
+        ≡ laidOut (blockDotSays FormatK.Q6K (now (w .entry)) (blockIn d (now (qs .entry)) (now (bsums .entry))) n)
         (now (value .entry)) ⌝ }
 {
     lay_out(
@@ -68,7 +69,7 @@ pub extern "C" fn jambharrow_dot_q6k_q8_block(
 #[no_mangle]
 pub extern "C" fn jambharrow_integer_dot_q4k(x: &[f32], w: &[u8], n: usize, value: &mut f32) -> u32
     ensures { λ r. ⌜ (r, now (value .exit))
-        ≡ laidOut (integerSays (now (x .entry)) (now (w .entry)) n) (now (value .entry)) ⌝ }
+        ≡ laidOut (integerSays FormatK.Q4K (now (x .entry)) (now (w .entry)) n) (now (value .entry)) ⌝ }
 {
     lay_out(dots_integer_row::integer_dot_q4k(x, w, n), value)
 }

@@ -3,11 +3,10 @@ use c_answers::lay_out_counts;
 use c_answers::number_of;
 use stepped_shape::Layer;
 ghost use mathlib.Core.Path.{_≡_};
-ghost use Rattle.stepped_shape.specs.Layer.{layerOf};
+ghost use Rattle.stepped_shape.specs.Layer.{layerOf, memory};
 ghost use Rattle.stepped_pieces.specs.Pieces.{pieceSays};
-ghost use Rattle.stepped.specs.Says.{openSays, runSays, closeSays};
-ghost use Rattle.c_answers.specs.Answers.{numbered};
-ghost use Rattle.c_answers.specs.Counts.{runLaidOut};
+ghost use Rattle.stepped.specs.Says.{openSays, runSays, ran, closeSays};
+ghost use Rattle.c_answers.specs.Answers.{numbered, laidOutBeside};
 
 // `stepped::open`, for C.
 #[no_mangle]
@@ -18,8 +17,9 @@ pub extern "C" fn jambharrow_open(
     slots: &mut [f32],
     marks: &mut [u8],
 ) -> u32
-    ensures { λ r. ⌜ (r, (now (slots .exit), now (marks .exit)))
-        ≡ numbered (openSays (layerOf format «in_feat» «out_feat») (now (slots .entry)) (now (marks .entry))) ⌝ }
+    ensures { λ r. ⌜ (r, memory (now (slots .exit)) (now (marks .exit)))
+        ≡ numbered (openSays (layerOf format «in_feat» «out_feat»)
+        (memory (now (slots .entry)) (now (marks .entry)))) ⌝ }
 {
     let layer = Layer {
         format,
@@ -42,9 +42,9 @@ pub extern "C" fn jambharrow_piece(
     slots: &mut [f32],
     marks: &mut [u8],
 ) -> u32
-    ensures { λ r. ⌜ (r, (now (slots .exit), now (marks .exit)))
+    ensures { λ r. ⌜ (r, memory (now (slots .exit)) (now (marks .exit)))
         ≡ numbered (pieceSays (layerOf format «in_feat» «out_feat») (now (w .entry)) (now (x .entry)) row chunk
-        (now (slots .entry)) (now (marks .entry))) ⌝ }
+        (memory (now (slots .entry)) (now (marks .entry)))) ⌝ }
 {
     let layer = Layer {
         format,
@@ -68,10 +68,10 @@ pub extern "C" fn jambharrow_run(
     done: &mut usize,
     left: &mut usize,
 ) -> u32
-    ensures { λ r. ⌜ (r, ((now (done .exit), now (left .exit)), (now (slots .exit), now (marks .exit))))
-        ≡ runLaidOut
-        (runSays (layerOf format «in_feat» «out_feat») (now (w .entry)) (now (x .entry)) budget (now (slots .entry))
-        (now (marks .entry))) (now (done .entry), now (left .entry)) ⌝ }
+    ensures { λ r. ⌜ (r, (ran (now (done .exit)) (now (left .exit)), memory (now (slots .exit)) (now (marks .exit))))
+        ≡ laidOutBeside
+        (runSays (layerOf format «in_feat» «out_feat») (now (w .entry)) (now (x .entry)) budget
+        (memory (now (slots .entry)) (now (marks .entry)))) (ran (now (done .entry)) (now (left .entry))) ⌝ }
 {
     let layer = Layer {
         format,
@@ -93,8 +93,8 @@ pub extern "C" fn jambharrow_close(
     y: &mut [f32],
 ) -> u32
     ensures { λ r. ⌜ (r, now (y .exit))
-        ≡ numbered (closeSays (layerOf format «in_feat» «out_feat») row (now (slots .entry)) (now (marks .entry))
-        (now (y .entry))) ⌝ }
+        ≡ numbered (closeSays (layerOf format «in_feat» «out_feat») row
+        (memory (now (slots .entry)) (now (marks .entry))) (now (y .entry))) ⌝ }
 {
     let layer = Layer {
         format,

@@ -1,13 +1,22 @@
--- `blocks::lay_out_block` meets its contract. Assumes nothing.
-use Rattle.c_answers.proofs.MadeBlock.{block-made, block-kept}
+-- `blocks::lay_out_block` meets its contract: a case for each answer of the check. Assumes nothing.
+use borrow.Author.Needs.{needs}
+use Rattle.c_answers.specs.Answers.{laidOut}
 use Rattle.c_answers.proofs.blocks.lay_out_block.Statement.{statement}
 use Rattle.c_answers.proofs.blocks.lay_out_block.Tie as tie
 
+enum-known-checked : tie.Need-enum-known-checked
+enum-known-checked c = search needs
+
 returns : tie.Need-returns
-returns c = block-kept _ _ (c .if1 .taken)
+unfolding laidOut
+returns c = rw (c .before .checked .given .1)
+
+enum-told : tie.Need-enum-told
+enum-told c = search needs
 
 returns-2 : tie.Need-returns-2
-returns-2 c = block-made _ _ (c .before .before .before .if1 .left)
+unfolding laidOut
+returns-2 c = rw (c .before .before .enum-told .given .1)
 
 pub lay-out-block-spec : {M : Type 1} → statement M
-lay-out-block-spec = tie.close (tie.spec returns returns-2)
+lay-out-block-spec = tie.close (tie.spec enum-known-checked returns enum-told returns-2)

@@ -1,6 +1,6 @@
 -- `counts::lay_out_counts` meets its contract: a case for each answer. Assumes nothing.
 use borrow.Author.Needs.{needs}
-use Rattle.c_answers.specs.Counts.{countsLaidOut}
+use Rattle.c_answers.specs.Answers.{laidOut}
 use Rattle.c_answers.proofs.counts.lay_out_counts.Statement.{statement}
 use Rattle.c_answers.proofs.counts.lay_out_counts.Tie as tie
 
@@ -11,11 +11,11 @@ enum-known-progress-2 : tie.Need-enum-known-progress-2
 enum-known-progress-2 c = search needs
 
 returns : tie.Need-returns
-unfolding countsLaidOut
+unfolding laidOut
 returns c = cc
 
 returns-2 : tie.Need-returns-2
-unfolding countsLaidOut
+unfolding laidOut
 returns-2 c = cc
 
 pub lay-out-counts-spec : {M : Type 1} → statement M
