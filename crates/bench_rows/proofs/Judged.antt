@@ -20,8 +20,8 @@ use Rattle.quantizers.specs.Says.{packedAt, quantizeRefusal, quantizeSays}
 use Rattle.quantizers.specs.declared.target.Target.the-variants.{Q40}
 use Rattle.sums.specs.Says.{sumSays}
 use Rattle.dots_activation.specs.Whole.{elem}
-use Rattle.dots_activation.specs.Blocks.{quantized}
-use Rattle.dots_activation.specs.declared.block.Quantized.{Quantized}
+use Rattle.dots_activation.specs.Blocks.{blockSaid, blockSays}
+use Rattle.dots_activation.specs.declared.block.Q8Block.{Q8Block}
 use Rattle.memory.proofs.Every.{every-all}
 use Rattle.replay_answers.specs.Same.{saysNumber, sameBytes}
 use Rattle.bench_rows.specs.Card.{Row, row, widen, floats, valueOf, writtenBy, firstQuants, answer, card, rowAt, sameNumbers, answered}
@@ -63,15 +63,15 @@ module _ (first a b c : ℕ) (o : Outcome) (out : List ℕ) (e : (outcomeSays o,
 
 -- ---- sums
 
-pub summed : (first bits : ℕ) (s : Said) → s ≡ sumSays (floats (first ∷ 0x3F800000 ∷ 0x3F800000 ∷ [])) 3 → sameNumbers (valueOf s) (bits ∷ []) ≡ judged (Sums first bits)
+pub summed : (first bits : ℕ) (s : Said Float) → s ≡ sumSays (floats (first ∷ 0x3F800000 ∷ 0x3F800000 ∷ [])) 3 → sameNumbers (valueOf s) (bits ∷ []) ≡ judged (Sums first bits)
 unfolding judged meant answered answer
-summed first bits s e = ap (λ (t : Said). sameNumbers (valueOf t) (bits ∷ [])) e
+summed first bits s e = ap (λ (t : Said Float). sameNumbers (valueOf t) (bits ∷ [])) e
 
 -- ---- activation blocks
 
-pub quantised : (x y inv a b c : ℕ) (q : Quantized) → q ≡ quantized (floats (x ∷ y ∷ 0 ∷ [])) → sameNumbers (firstQuants 3 (q .block)) (inv ∷ a ∷ b ∷ c ∷ []) ≡ judged (Quantizes x y inv a b c)
+pub quantised : (x y inv a b c : ℕ) (block : Q8Block) → block ≡ blockSaid (blockSays (floats (x ∷ y ∷ 0 ∷ []))) → sameNumbers (firstQuants 3 block) (inv ∷ a ∷ b ∷ c ∷ []) ≡ judged (Quantizes x y inv a b c)
 unfolding judged meant answered answer
-quantised x y inv a b c q e = ap (λ (r : Quantized). sameNumbers (firstQuants 3 (r .block)) (inv ∷ a ∷ b ∷ c ∷ [])) e
+quantised x y inv a b c block e = ap (λ (r : Q8Block). sameNumbers (firstQuants 3 r) (inv ∷ a ∷ b ∷ c ∷ [])) e
 
 -- ---- the card
 
@@ -88,5 +88,3 @@ row-answered n =
     let none = row (widen []) [] in
     let e = sym (List·getD-map f card (n - 1) none) ∙ ap (λ (l : List (List ℕ)). getD l (n - 1) []) card-holds ∙ List·getD-map g card (n - 1) none in
     rw e (same-themselves (rowAt n .says))
-
--- ---- counting

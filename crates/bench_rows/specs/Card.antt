@@ -17,7 +17,7 @@ use Rattle.quantizers.specs.Says.{quantizeSays}
 use Rattle.quantizers.specs.declared.target.Target.the-variants.{Q40}
 use Rattle.sums.specs.Says.{sumSays}
 use Rattle.dots_activation.specs.Whole.{elem}
-use Rattle.dots_activation.specs.Blocks.{quantized}
+use Rattle.dots_activation.specs.Blocks.{blockSaid, blockSays}
 use Rattle.dots_activation.specs.declared.block.Q8Block.{Q8Block}
 
 -- What a row asks. A float is given by its bits, as the card writes it.
@@ -67,7 +67,7 @@ answer (encode bs) = map narrowed bs
 answer (packed bs) = writtenBy (quantizeSays Q40 (floats bs) (replicate 18 0))
 answer (sum bs) = valueOf (sumSays (floats bs) (length bs))
 answer (becomes n) = toBits binary32 (ofInt binary32 n) ∷ []
-answer (quants bs) = firstQuants (length bs) (quantized (floats bs) .block)
+answer (quants bs) = firstQuants (length bs) (blockSaid (blockSays (floats bs)))
 answer (gives b) = byteOf (quantQ8 (ofBits binary32 b)) ∷ []
 
 -- a row of the card

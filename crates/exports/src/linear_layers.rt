@@ -1,6 +1,6 @@
 // The layers.
 use c_answers::number_of;
-use held_rows::Meeting;
+use dots_kept_row::Meeting;
 use layouts::Format;
 use layouts::Format32;
 use layouts::FormatK;

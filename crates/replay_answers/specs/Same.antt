@@ -32,7 +32,7 @@ sameByteAt p bs i = eqb (getD p i 0) (getD bs i 0)
 unfoldable pub sameBytes : List ℕ → List ℕ → Bool
 sameBytes p bs = cond (ltb (length p) (length bs)) false (every (sameByteAt p bs) (length bs))
 
--- a call that fills lent memory says this number: that it is done is 0
+-- a call that fills lent memory, or a check, says this number: that it is done is 0
 abbrev pub saysNumber : Said (Unit {0}) → ℕ → Bool
 saysNumber (value finished) number = eqb number 0
 saysNumber (refused why) number = eqb (why .number) number

@@ -1,8 +1,9 @@
 // What comes of a record of the sample.
 use refusals::Answer;
+use refusals::Check;
 use refusals::Outcome;
 ghost use mathlib.Core.Path.{_≡_};
-ghost use Rattle.refusals.specs.Said.{saidBy, outcomeSays};
+ghost use Rattle.refusals.specs.Said.{saidBy, outcomeSays, checkSays};
 ghost use Rattle.replay_answers.specs.Same.{sameBits, saysNumber, sameAnswer, found};
 
 pub enum Finding {
@@ -63,6 +64,16 @@ pub fn says(ours: Outcome, number: u32) -> bool
     match ours {
         Outcome::Done => number == 0,
         Outcome::Refused(refusal) => refusal.number == number,
+    }
+}
+
+// Whether a check says this number: that nothing is refused is 0.
+pub fn check_says(ours: Check, number: u32) -> bool
+    ensures { λ r. ⌜ r ≡ saysNumber (checkSays ours) number ⌝ }
+{
+    match ours {
+        Check::Passed => number == 0,
+        Check::Refused(refusal) => refusal.number == number,
     }
 }
 

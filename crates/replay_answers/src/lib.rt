@@ -3,6 +3,7 @@ mod findings;
 mod payload;
 
 pub use findings::Finding;
+pub use findings::check_says;
 pub use findings::same_answer;
 pub use findings::same_bits;
 pub use findings::says;

@@ -6,6 +6,7 @@ use dots_activation::Q8Block;
 use layouts::FormatK;
 use refusals::Answer;
 use replay_answers::Finding;
+use replay_answers::check_says;
 use replay_answers::read_floats;
 use replay_answers::u32_at;
 
@@ -16,8 +17,9 @@ const READINGS: usize = 257;
 fn judge_block(bytes: &[u8], x: &mut [f32], number: u32, theirs: Q8Block) -> Finding {
     read_floats(bytes, x);
     let ours = dots_activation::quantize_block_q8(x);
+    let checked = ours.checked;
     let block = ours.block;
-    Finding::of_same(ours.no == number && same_blocks(block, theirs))
+    Finding::of_same(check_says(checked, number) && same_blocks(block, theirs))
 }
 
 // A payload is how many readings there are, the readings, the number that says no, 0 where there is none, and the

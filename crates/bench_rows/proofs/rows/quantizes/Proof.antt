@@ -4,7 +4,7 @@ use mathlib.Core.List.{[], _∷_}
 use lib.Ieee.{Float, binary32, ofBits}
 use borrow.Author.Needs.{needs}
 use Rattle.numbers.specs.Steps.{nought}
-use Rattle.dots_activation.specs.Blocks.{quantized}
+use Rattle.dots_activation.specs.Blocks.{blockSaid, blockSays}
 use Rattle.bench_rows.proofs.Judged.{quantised}
 use Rattle.bench_rows.proofs.rows.quantizes.Statement.{statement}
 use Rattle.bench_rows.proofs.rows.quantizes.Tie as tie
@@ -36,10 +36,10 @@ returns c =
     let y = q .before .before in
     let x = y .before in
     let a = x .before .args in
-    let e = q .quantize-block-q8 .ensures
-    ∙ ap (λ (v : Float). quantized (v ∷ y .of-bits2 .result ∷ nought ∷ [])) (x .of-bits .ensures)
-    ∙ ap (λ (v : Float). quantized (ofBits binary32 (a .x) ∷ v ∷ nought ∷ [])) (y .of-bits2 .ensures) in
-    c .block-is .ensures ∙ quantised (a .x) (a .y) (a .inverse) (a .a) (a .b) (a .c) (q .quantize-block-q8 .result) e
+    let e = q .quantize-block-q8 .ensures .1
+    ∙ ap (λ (v : Float). blockSaid (blockSays (v ∷ y .of-bits2 .result ∷ nought ∷ []))) (x .of-bits .ensures)
+    ∙ ap (λ (v : Float). blockSaid (blockSays (ofBits binary32 (a .x) ∷ v ∷ nought ∷ []))) (y .of-bits2 .ensures) in
+    c .block-is .ensures ∙ quantised (a .x) (a .y) (a .inverse) (a .a) (a .b) (a .c) (q .quantize-block-q8 .result .block) e
 
 pub quantizes-spec : {M : Type 1} → statement M
 quantizes-spec =
