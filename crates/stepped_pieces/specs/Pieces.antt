@@ -1,5 +1,5 @@
--- What `piece` says and what lent memory holds then: its own slot and its own mark, nothing else; and what a row's slots
--- come to. Definitions only.
+-- What `piece` says and what lent memory holds then: its own slot and its own mark, nothing else; and what a row's
+-- slots come to. Definitions only.
 use Prim.{Unit}
 use Prim.Native.Nat.{ℕ}
 use mathlib.Core.List.{List}

@@ -92,20 +92,4 @@ returns-3 c =
 pub run-spec : {M : Type 1} → statement M
 run-spec =
     tie.close
-    (tie.spec
-    format-named-requires
-    enum-known-format
-    enum-told
-    returns
-    work-refusal-requires
-    enum-known-refusal
-    returns-2
-    enum-told-2
-    work-open-requires
-    pieces-of-requires
-    slice-reshare-prefix-count-open
-    slice-aggregate-count-open
-    count-open-requires
-    same-length
-    same-length-2
-    returns-3)
+    (tie.spec format-named-requires enum-known-format enum-told returns work-refusal-requires enum-known-refusal returns-2 enum-told-2 work-open-requires pieces-of-requires slice-reshare-prefix-count-open slice-aggregate-count-open count-open-requires same-length same-length-2 returns-3)

@@ -114,24 +114,4 @@ returns-2 c =
 pub meet-spec : {M : Type 1} → statement M
 meet-spec =
     tie.close
-    (tie.spec
-    Inv-loop
-    μ-loop
-    chunks-of-requires
-    mul-at
-    mul-result
-    shared-slice-read-result
-    returns
-    loop-holds
-    add-sums
-    mul-sums
-    shared-slice-read-sums
-    mul-sums-2
-    array-write-sums
-    add-c
-    loop-less
-    loop-again
-    array-borrow-prefix-sums
-    slice-aggregate-canonical-combine
-    canonical-combine-requires
-    returns-2)
+    (tie.spec Inv-loop μ-loop chunks-of-requires mul-at mul-result shared-slice-read-result returns loop-holds add-sums mul-sums shared-slice-read-sums mul-sums-2 array-write-sums add-c loop-less loop-again array-borrow-prefix-sums slice-aggregate-canonical-combine canonical-combine-requires returns-2)

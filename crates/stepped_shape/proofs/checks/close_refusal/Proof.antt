@@ -108,19 +108,4 @@ returns-5 c =
 pub close-refusal-spec : {M : Type 1} → statement M
 close-refusal-spec =
     tie.close
-    (tie.spec
-    open-refusal-requires
-    enum-known-refusal
-    returns
-    enum-told
-    returns-2
-    returns-3
-    chunks-of-requires
-    mul-at
-    add-end
-    sub-count-open
-    part-count-open-start
-    part-count-open-end
-    count-open-requires
-    returns-4
-    returns-5)
+    (tie.spec open-refusal-requires enum-known-refusal returns enum-told returns-2 returns-3 chunks-of-requires mul-at add-end sub-count-open part-count-open-start part-count-open-end count-open-requires returns-4 returns-5)

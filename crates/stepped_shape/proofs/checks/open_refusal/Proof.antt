@@ -33,10 +33,4 @@ returns-2 c = c .room-refusal .ensures ∙ sym (else-later _ _ (shape (c .before
 pub open-refusal-spec : {M : Type 1} → statement M
 open-refusal-spec =
     tie.close
-    (tie.spec
-    shape-refusal-requires
-    enum-known-refusal
-    returns
-    enum-told
-    room-refusal-requires
-    returns-2)
+    (tie.spec shape-refusal-requires enum-known-refusal returns enum-told room-refusal-requires returns-2)

@@ -83,15 +83,4 @@ returns-5 c =
 pub piece-refusal-spec : {M : Type 1} → statement M
 piece-refusal-spec =
     tie.close
-    (tie.spec
-    work-refusal-requires
-    enum-known-refusal
-    returns
-    enum-told
-    returns-2
-    chunks-of-requires
-    returns-3
-    place-of-requires
-    shared-slice-read-if3
-    returns-4
-    returns-5)
+    (tie.spec work-refusal-requires enum-known-refusal returns enum-told returns-2 chunks-of-requires returns-3 place-of-requires shared-slice-read-if3 returns-4 returns-5)
