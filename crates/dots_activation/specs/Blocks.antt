@@ -6,10 +6,8 @@ use lib.Dec.{ltb}
 use lib.IntN.{ℤ, pos}
 use lib.ListN.{getD, length, replicate}
 use lib.Ieee.{Float, nan, binary32, mul}
-use Rattle.refusals.specs.Said.{Said, value, refused, no}
-use Rattle.refusals.specs.Refusals.{given}
-use Rattle.refusals.specs.declared.Check.{Check}
-use Rattle.refusals.specs.declared.Check.the-variants as check
+use Rattle.refusals.specs.Said.{Said, value, refused, no, checkSays}
+use Rattle.refusals.specs.Refusals.{given, orElse}
 use Rattle.memory.specs.Lists.{table, every}
 use Rattle.numbers.specs.Steps.{nought}
 use Rattle.readings.specs.Readings.{scaleQ8, inverse, quantQ8}
@@ -46,13 +44,9 @@ blockOf xs = blockWith (scaleQ8 xs) (quantsOf xs)
 unfoldable pub quantizeSays : List Float → Said Q8Block
 quantizeSays xs = given (no 4) (ltb 256 (length xs)) (value (blockOf xs))
 
--- what an answer of a check and a block beside it say
-abbrev pub checkedSays : Check → Q8Block → Said Q8Block
-checkedSays check.Passed b = value b
-checkedSays (check.Refused why) b = refused why
-
+-- what its answer says
 abbrev pub quantizedSays : Quantized → Said Q8Block
-quantizedSays r = checkedSays (r .checked) (r .block)
+quantizedSays r = orElse (checkSays (r .checked)) (value (r .block))
 
 -- the block that is answered: beside a refusal it has nothing but zeros
 abbrev pub blockSaid : Said Q8Block → Q8Block

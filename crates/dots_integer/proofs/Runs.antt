@@ -18,7 +18,6 @@ use Rattle.layouts.specs.declared.format.FormatK.{FormatK}
 use Rattle.dots_activation.specs.Whole.{elem, sumℤ}
 use Rattle.dots_activation.proofs.Ranges.{sum-same, sum-scale, sum-runs, sum-cut}
 use Rattle.dots_integer.specs.Dots.{weighedAt}
-use Rattle.dots_integer.specs.Inner.{sumOf}
 
 -- the places of a list that a rule made
 pub table-at : {A : Type 0} {l : List A} (g : ℕ → A) (d : A) → l ≡ table g 256 → (i : ℕ) → i < 256 → getD l i d ≡ g i
@@ -49,7 +48,7 @@ module _ (f : FormatK) (w : List ℕ) (q : ℕ → ℤ) (x : List ℤ) where
   stretches-are R k = sum-runs (weighedAt f w q x) R k
 
   -- other quants that are the same
-  pub laid-out : (v : ℕ → ℤ) → ((i : ℕ) → i < 256 → q i ≡ v i) → sumOf f w q x ≡ sumOf f w v x
+  pub laid-out : (v : ℕ → ℤ) → ((i : ℕ) → i < 256 → q i ≡ v i) → sumℤ (weighedAt f w q x) 256 ≡ sumℤ (weighedAt f w v x) 256
   laid-out v e = sum-same (weighedAt f w q x) (weighedAt f w v x) 256 (λ i h. ap (λ (z : ℤ). scaleK f w i *ℤ (z *ℤ elem x i)) (e i h))
 
   -- what an activation quant z weighs at place i
@@ -57,7 +56,7 @@ module _ (f : FormatK) (w : List ℕ) (q : ℕ → ℤ) (x : List ℤ) where
   weighs i z = scaleK f w i *ℤ (q i *ℤ z)
 
   -- activation quants that are 0 from n on: the sum stops there
-  pub cut-sum : (y : List ℤ) (n : ℕ) → n ≤ 256 → y ≡ table (λ i. cond (ltb i n) (elem x i) (pos 0)) 256 → sumOf f w q y ≡ sumℤ (weighedAt f w q x) n
+  pub cut-sum : (y : List ℤ) (n : ℕ) → n ≤ 256 → y ≡ table (λ i. cond (ltb i n) (elem x i) (pos 0)) 256 → sumℤ (weighedAt f w q y) 256 ≡ sumℤ (weighedAt f w q x) n
   cut-sum y n h e =
       sum-cut (weighedAt f w q y) n 256 h (λ i b p. ap (weighs i) (past i b p) ∙ ap (λ (z : ℤ). scaleK f w i *ℤ z) (*ℤ-zero (q i)) ∙ *ℤ-zero (scaleK f w i))
       ∙ sum-same (weighedAt f w q y) (weighedAt f w q x) n (λ i p. ap (weighs i) (kept i p))

@@ -49,14 +49,11 @@ dotWith f w b n = blockDot f w (b .d) (b .qs) (b .bsums) n
 abbrev pub sumsServe : FormatK → Q8Block → Bool
 sumsServe f b = cond (hasMinimums f) (sumsRight b) true
 
--- A block dot needs one whole block and takes n above 256 as 256; surplus weights are ignored.
-abbrev pub firstDot : FormatK → List ℕ → Q8Block → ℕ → Float
-firstDot f w b n = dotWith f (take (bytesK f) w) b (min n 256)
-
 -- `dot_q4k_q8_block`, `dot_q6k_q8_block`: fewer weights than needed; sums that aren't the sums of their 32s; and
--- otherwise its formula, also at n = 0
+-- otherwise its formula, also at n = 0. A block dot needs one whole block and takes n above 256 as 256; surplus weights
+-- are ignored.
 unfoldable pub blockDotSays : FormatK → List ℕ → Q8Block → ℕ → Said Float
 blockDotSays f w b n =
     given (no 3) (ltb (length w) (bytesK f))
     (given (no 7) (not (sumsServe f b))
-    (value (firstDot f w b n)))
+    (value (dotWith f (take (bytesK f) w) b (min n 256))))

@@ -18,10 +18,10 @@ ghost use Rattle.halves.specs.Binary16.{widened};
 ghost use Rattle.numbers.specs.Fields.{le16};
 ghost use Rattle.layouts.specs.Formats.{bytesK, hasMinimums};
 ghost use Rattle.layouts.specs.K.{dOf};
-ghost use Rattle.dots_activation.specs.Whole.{elem};
+ghost use Rattle.dots_activation.specs.Whole.{elem, sumℤ};
 ghost use Rattle.dots_activation.specs.Blocks.{SmallSums};
-ghost use Rattle.dots_integer.specs.Dots.{scaledSum, scaledDot, blockDot, dotWith, sumsServe, blockDotSays};
-ghost use Rattle.dots_integer.specs.Inner.{sumOf};
+ghost use Rattle.dots_integer.specs.Dots.{weighedAt, scaledSum, scaledDot, blockDot, dotWith};
+ghost use Rattle.dots_integer.specs.Dots.{sumsServe, blockDotSays};
 
 // The f16 field at i.
 fn half_at(w: &[u8], i: usize) -> f32
@@ -35,7 +35,7 @@ fn half_at(w: &[u8], i: usize) -> f32
 fn dot_of_sub_blocks(w: &[u8], q: &[u8; 256], d: f32, qs: &[i8], sums: &[i32]) -> f32
     requires { ⌜ (16 ≤ length (now w)) × (length (now qs) ≡ 256) × (length (now sums) ≡ 8) × SmallSums (now sums) ⌝ }
     ensures { λ r. ⌜ r ≡ scaledDot FormatK.Q4K (now (w .entry)) d (now (sums .entry))
-        (sumOf FormatK.Q4K (now (w .entry)) (λ i. pos (getD (now (q .entry)) i 0)) (now (qs .entry))) ⌝ }
+        (sumℤ (weighedAt FormatK.Q4K (now (w .entry)) (λ i. pos (getD (now (q .entry)) i 0)) (now (qs .entry))) 256) ⌝ }
 {
     let a = numbers::whole_to_f32(sum_by_sub_blocks(w, q, qs));
     let m = numbers::whole_to_f32(minimum_sum(w, sums));
@@ -46,7 +46,7 @@ fn dot_of_sub_blocks(w: &[u8], q: &[u8; 256], d: f32, qs: &[i8], sums: &[i32]) -
 fn dot_of_runs(w: &[u8], q: &[i8; 256], d: f32, qs: &[i8]) -> f32
     requires { ⌜ (length (now w) ≡ 210) × (length (now qs) ≡ 256) ⌝ }
     ensures { λ r. ⌜ r ≡ scaledSum (dOf FormatK.Q6K (now (w .entry))) d
-        (sumOf FormatK.Q6K (now (w .entry)) (elem (now (q .entry))) (now (qs .entry))) ⌝ }
+        (sumℤ (weighedAt FormatK.Q6K (now (w .entry)) (elem (now (q .entry))) (now (qs .entry))) 256) ⌝ }
 {
     let b = numbers::whole_to_f32(sum_by_runs(w, q, qs));
     half_at(w, 208) * d * b

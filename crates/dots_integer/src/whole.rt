@@ -12,8 +12,7 @@ ghost use lib.ListN.{length, getD};
 ghost use Rattle.memory.specs.Lists.{table};
 ghost use Rattle.dots_activation.specs.Whole.{elem, sumℤ, Within};
 ghost use Rattle.dots_activation.specs.Blocks.{SmallSums};
-ghost use Rattle.dots_integer.specs.Dots.{minimumSum};
-ghost use Rattle.dots_integer.specs.Inner.{sumOf};
+ghost use Rattle.dots_integer.specs.Dots.{weighedAt, minimumSum};
 
 // A byte times a quant and another byte times another quant.
 fn two_products(a: u8, x: i8, b: u8, y: i8) -> i32
@@ -69,7 +68,8 @@ fn run(q: &[i8; 256], x: &[i8], e: usize) -> i32
 // The whole-number sum over all places of a block with minimums, whose quants are q: a scale for each sub-block.
 pub(crate) fn sum_by_sub_blocks(w: &[u8], q: &[u8; 256], x: &[i8]) -> i32
     requires { ⌜ (16 ≤ length (now w)) × (length (now x) ≡ 256) ⌝ }
-    ensures { λ r. ⌜ r ≡ sumOf FormatK.Q4K (now (w .entry)) (λ i. pos (getD (now (q .entry)) i 0)) (now (x .entry)) ⌝ }
+    ensures { λ r. ⌜ r ≡ sumℤ
+        (weighedAt FormatK.Q4K (now (w .entry)) (λ i. pos (getD (now (q .entry)) i 0)) (now (x .entry))) 256 ⌝ }
 {
     let mut a: i32 = 0;
     for j in 0..8usize {
@@ -81,7 +81,7 @@ pub(crate) fn sum_by_sub_blocks(w: &[u8], q: &[u8; 256], x: &[i8]) -> i32
 // That of a Q6_K block, whose quants are q: a scale for each run.
 pub(crate) fn sum_by_runs(w: &[u8], q: &[i8; 256], x: &[i8]) -> i32
     requires { ⌜ (length (now w) ≡ 210) × (length (now x) ≡ 256) ⌝ }
-    ensures { λ r. ⌜ r ≡ sumOf FormatK.Q6K (now (w .entry)) (elem (now (q .entry))) (now (x .entry)) ⌝ }
+    ensures { λ r. ⌜ r ≡ sumℤ (weighedAt FormatK.Q6K (now (w .entry)) (elem (now (q .entry))) (now (x .entry))) 256 ⌝ }
 {
     let mut a: i32 = 0;
     for e in 0..16usize {

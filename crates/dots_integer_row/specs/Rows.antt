@@ -18,21 +18,14 @@ use Rattle.sums_tree.specs.Tree.{tree}
 use Rattle.dots_activation.specs.Blocks.{blockOf}
 use Rattle.dots_integer.specs.Dots.{dotWith}
 
--- how many blocks n places make: the last may be shorter
-abbrev pub blocksIn : ℕ → ℕ
-blocksIn n = stretchesIn 256 n
-
--- how many places block b of n places has: 256, or as many as are left
-abbrev pub blockLength : ℕ → ℕ → ℕ
-blockLength n b = stretchLength 256 n b
-
--- the dot of block b: its readings quantised, over as many places as there are readings
+-- the dot of block b of n places: its readings quantised, 256 or as many as are left, over as many places
 abbrev pub blockAt : FormatK → List Float → List ℕ → ℕ → ℕ → Float
-blockAt f x w n b = dotWith f (block (OfK f) w b) (blockOf (part x (256 * b) (blockLength n b))) (blockLength n b)
+blockAt f x w n b =
+    dotWith f (block (OfK f) w b) (blockOf (part x (256 * b) (stretchLength 256 n b))) (stretchLength 256 n b)
 
 -- row results meet in the tree
 unfoldable pub integerRow : FormatK → List Float → List ℕ → ℕ → Float
-integerRow f x w n = tree (table (blockAt f x w n) (blocksIn n))
+integerRow f x w n = tree (table (blockAt f x w n) (stretchesIn 256 n))
 
 -- `integer_dot_q4k`: over a size; packed bytes that are not whole blocks; n = 0 answers +0.0; fewer weights than
 -- needed; fewer readings; and otherwise the row's dot
@@ -41,6 +34,6 @@ integerSays f x w n =
     given (no 6) (ltb mostIn n)
     (given (no 1) (not (eqb (length w % bytesK f) 0))
     (cond (eqb n 0) (value nought)
-    (given (no 3) (ltb (length w) (blocksIn n * bytesK f))
+    (given (no 3) (ltb (length w) (stretchesIn 256 n * bytesK f))
     (given (no 4) (ltb (length x) n)
     (value (integerRow f x w n))))))

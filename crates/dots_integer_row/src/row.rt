@@ -9,8 +9,9 @@ ghost use Prim.Native.Nat.{_+_, _*_, _≤_, _<_};
 ghost use lib.ListN.{length};
 ghost use Rattle.refusals.specs.Said.{saidBy};
 ghost use Rattle.refusals.specs.Sizes.{mostIn};
+ghost use Rattle.memory.specs.Lists.{stretchLength, stretchesIn};
 ghost use Rattle.layouts.specs.Formats.{bytesK};
-ghost use Rattle.dots_integer_row.specs.Rows.{blocksIn, blockLength, integerRow, integerSays};
+ghost use Rattle.dots_integer_row.specs.Rows.{integerRow, integerSays};
 
 // The blocks of a row at most.
 const MOST_BLOCKS: usize = 512;
@@ -18,15 +19,15 @@ const MOST_BLOCKS: usize = 512;
 // How many blocks n places make: 512 at most.
 fn blocks_in(n: usize) -> usize
     requires { ⌜ n ≤ mostIn ⌝ }
-    ensures { λ r. ⌜ r ≡ blocksIn n ⌝ }
+    ensures { λ r. ⌜ r ≡ stretchesIn 256 n ⌝ }
 {
     (n + 255) / 256
 }
 
 // Where the readings of block b of n places end; they start at 256 b.
 fn block_end(n: usize, b: usize) -> usize
-    requires { ⌜ (n ≤ mostIn) × (b < blocksIn n) ⌝ }
-    ensures { λ r. ⌜ (r ≡ 256 * b + blockLength n b) × (256 * b < r) × (r ≤ n) ⌝ }
+    requires { ⌜ (n ≤ mostIn) × (b < stretchesIn 256 n) ⌝ }
+    ensures { λ r. ⌜ (r ≡ 256 * b + stretchLength 256 n b) × (256 * b < r) × (r ≤ n) ⌝ }
 {
     let s = 256 * b;
     if n - s > 256 { s + 256 } else { n }
@@ -34,7 +35,7 @@ fn block_end(n: usize, b: usize) -> usize
 
 // The dot of the first n places: the dots of the blocks meet in the tree.
 fn integer_row(format: FormatK, x: &[f32], w: &[u8], n: usize) -> f32
-    requires { ⌜ (n ≤ mostIn) × (n ≤ length (now x)) × (blocksIn n * bytesK format ≤ length (now w)) ⌝ }
+    requires { ⌜ (n ≤ mostIn) × (n ≤ length (now x)) × (stretchesIn 256 n * bytesK format ≤ length (now w)) ⌝ }
     ensures { λ r. ⌜ r ≡ integerRow format (now (x .entry)) (now (w .entry)) n ⌝ }
 {
     let size = layouts::block_bytes(Format::OfK(format));

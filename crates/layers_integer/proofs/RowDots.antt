@@ -13,13 +13,13 @@ use Rattle.refusals.specs.Said.{Said, value, done}
 use Rattle.refusals.specs.Sizes.{mostIn}
 use Rattle.refusals.specs.Refusals.{given}
 use Rattle.refusals.proofs.Laws.{carried-value, carried-said}
-use Rattle.memory.specs.Lists.{table, part}
+use Rattle.memory.specs.Lists.{table, part, stretchesIn}
 use Rattle.memory.proofs.Filled.{length-table, getD-table}
 use Rattle.memory.proofs.Parts.{within}
 use Rattle.layouts.specs.Formats.{bytesK}
 use Rattle.layouts.specs.declared.format.FormatK.{FormatK}
 use Rattle.sums_tree.specs.Tree.{tree, met}
-use Rattle.dots_integer_row.specs.Rows.{blocksIn, blockAt, integerRow, integerSays}
+use Rattle.dots_integer_row.specs.Rows.{blockAt, integerRow, integerSays}
 use Rattle.layers_shape.specs.declared.Shape.{Shape}
 use Rattle.layers_shape.specs.Shapes.{rowBytes, layerRefusal, readingRow, weightRow, outputs}
 use Rattle.layers_shape.proofs.Fits.{Fits, fits}
@@ -37,7 +37,7 @@ pub integer-answers : (f : FormatK) (x : List Float) (w : List ℕ) (n : ℕ) �
 unfolding integerSays given integerRow meets tree met table
 integer-answers f x w zero most enough whole e = simp (eq-eqb _ _ (ap (λ (k : ℕ). k % bytesK f) e ∙ mul-mod-left 0 (bytesK f)))
 integer-answers f x w (suc m) most enough whole e =
-    let blocks : blocksIn (suc m) ≡ suc m / 256 = omega arith in
+    let blocks : stretchesIn 256 (suc m) ≡ suc m / 256 = omega arith in
     let aligned : length w % bytesK f ≡ 0 = ap (λ (k : ℕ). k % bytesK f) e ∙ mul-mod-left (suc m / 256) (bytesK f) in
     let long : rowBytes f (suc m) ≤ length w = le-of-eq (sym e) in
     simp (le-ltb _ _ most, eq-eqb _ _ aligned, ne-eqb _ _ (not-nought m), blocks, le-ltb _ _ long, le-ltb _ _ enough)

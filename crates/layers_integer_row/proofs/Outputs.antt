@@ -5,13 +5,13 @@ use Prim.Native.Nat.{ℕ, _*_, _/_, _<_}
 use native.Mathlib.Omega.{arith}
 use lib.IntN.{ℤ}
 use lib.Ieee.{Float}
-use Rattle.memory.specs.Lists.{part}
+use Rattle.memory.specs.Lists.{part, stretchLength}
 use Rattle.layouts.specs.Weights.{block}
 use Rattle.layouts.specs.declared.format.Format.the-variants.{OfK}
 use Rattle.layouts.specs.declared.format.FormatK.{FormatK}
 use Rattle.dots_activation.specs.Blocks.{blockOf}
 use Rattle.dots_integer.specs.Dots.{dotWith}
-use Rattle.dots_integer_row.specs.Rows.{blockLength, blockAt}
+use Rattle.dots_integer_row.specs.Rows.{blockAt}
 use Rattle.layers_shape.specs.Shapes.{weightRow}
 use Rattle.dots_kept_row.specs.declared.meeting.Meeting.{Meeting}
 use Rattle.dots_kept_row.specs.Inner.{keptDot, Keeps}
@@ -20,7 +20,7 @@ use Rattle.layers_integer_row.specs.Inner.{keptRowDot}
 use Rattle.layers_integer_row.specs.Outputs.{integerDotAt}
 
 -- a whole block has 256 places
-whole-block : (n t : ℕ) → t < n / 256 → blockLength n t ≡ 256
+whole-block : (n t : ℕ) → t < n / 256 → stretchLength 256 n t ≡ 256
 whole-block n t h = omega arith
 
 module _ (f : FormatK) (x : List Float) (n : ℕ) (ds : List Float) (qs sums : List ℤ) (h : Keeps x (n / 256) ds qs sums) where

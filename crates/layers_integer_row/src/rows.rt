@@ -75,7 +75,8 @@ fn all_rows(
 
 // Rows of at most 16 blocks: to clear room for 512 takes longer than such a row's dot.
 pub fn rows_of_16(format: FormatK, meeting: Meeting, x: &[f32], w: &[u8], y: &mut [f32], s: Shape)
-    requires { ⌜ (layerRefusal format s (length (now x)) (length (now w)) (length (now y)) ≡ done) × (s .«in_feat» ≤ 4096) ⌝ }
+    requires { ⌜ (layerRefusal format s (length (now x)) (length (now w)) (length (now y)) ≡ done)
+        × (s .«in_feat» ≤ 4096) ⌝ }
     ensures { λ _. ⌜ now (y .exit)
         ≡ integerOutputs format meeting s (now (x .entry)) (now (w .entry)) (now (y .entry)) ⌝ }
 {

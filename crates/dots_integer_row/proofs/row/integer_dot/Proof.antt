@@ -10,7 +10,7 @@ use Rattle.refusals.specs.Said.{value}
 use Rattle.refusals.specs.Refusals.{given}
 use Rattle.layouts.specs.declared.format.Format.the-variants.{OfK}
 use Rattle.layouts.proofs.Sizes.{sizes}
-use Rattle.dots_integer_row.specs.Rows.{blocksIn, integerSays}
+use Rattle.dots_integer_row.specs.Rows.{integerSays}
 use Rattle.dots_integer_row.proofs.row.integer_dot.Statement.{statement}
 use Rattle.dots_integer_row.proofs.row.integer_dot.Tie as tie
 
@@ -31,12 +31,7 @@ returns-2 c = simp (sym (c .before .before .block-bytes .ensures), le-ltb _ _ (c
 returns-3 : tie.Need-returns-3
 unfolding integerSays given
 returns-3 c =
-    simp (
-      sym (c .before .before .before .block-bytes .ensures),
-      le-ltb _ _ (c .before .before .if1 .left),
-      eq-eqb _ _ (c .before .if2 .left),
-      eq-eqb _ _ (c .if3 .taken),
-    )
+    simp (sym (c .before .before .before .block-bytes .ensures), le-ltb _ _ (c .before .before .if1 .left), eq-eqb _ _ (c .before .if2 .left), eq-eqb _ _ (c .if3 .taken))
 
 blocks-in-requires : tie.Need-blocks-in-requires
 blocks-in-requires c κs = search needs
@@ -51,28 +46,12 @@ mul-if4 c =
 returns-4 : tie.Need-returns-4
 unfolding integerSays given
 returns-4 c =
-    let b = c .before .before .before .before .before in
-    simp (
-      sym (b .block-bytes .ensures),
-      sym (c .before .blocks-in .ensures),
-      le-ltb _ _ (c .before .before .before .before .if1 .left),
-      eq-eqb _ _ (c .before .before .before .if2 .left),
-      ne-eqb _ _ (c .before .before .if3 .left),
-      lt-ltb _ _ (c .if4 .taken),
-    )
+    simp (sym (c .before .before .before .before .before .block-bytes .ensures), sym (c .before .blocks-in .ensures), le-ltb _ _ (c .before .before .before .before .if1 .left), eq-eqb _ _ (c .before .before .before .if2 .left), ne-eqb _ _ (c .before .before .if3 .left), lt-ltb _ _ (c .if4 .taken))
 
 returns-5 : tie.Need-returns-5
 unfolding integerSays given
 returns-5 c =
-    simp (
-      sym (c .before .before .before .before .before .before .block-bytes .ensures),
-      sym (c .before .before .blocks-in .ensures),
-      le-ltb _ _ (c .before .before .before .before .before .if1 .left),
-      eq-eqb _ _ (c .before .before .before .before .if2 .left),
-      ne-eqb _ _ (c .before .before .before .if3 .left),
-      le-ltb _ _ (c .before .if4 .left),
-      lt-ltb _ _ (c .if5 .taken),
-    )
+    simp (sym (c .before .before .before .before .before .before .block-bytes .ensures), sym (c .before .before .blocks-in .ensures), le-ltb _ _ (c .before .before .before .before .before .if1 .left), eq-eqb _ _ (c .before .before .before .before .if2 .left), ne-eqb _ _ (c .before .before .before .if3 .left), le-ltb _ _ (c .before .if4 .left), lt-ltb _ _ (c .if5 .taken))
 
 integer-row-requires : tie.Need-integer-row-requires
 integer-row-requires c κs =
@@ -82,15 +61,7 @@ integer-row-requires c κs =
 returns-6 : tie.Need-returns-6
 unfolding integerSays given
 returns-6 c =
-    simp (
-      sym (c .before .before .before .before .before .before .before .block-bytes .ensures),
-      sym (c .before .before .before .blocks-in .ensures),
-      le-ltb _ _ (c .before .before .before .before .before .before .if1 .left),
-      eq-eqb _ _ (c .before .before .before .before .before .if2 .left),
-      ne-eqb _ _ (c .before .before .before .before .if3 .left),
-      le-ltb _ _ (c .before .before .if4 .left),
-      le-ltb _ _ (c .before .if5 .left),
-    )
+    simp (sym (c .before .before .before .before .before .before .before .block-bytes .ensures), sym (c .before .before .before .blocks-in .ensures), le-ltb _ _ (c .before .before .before .before .before .before .if1 .left), eq-eqb _ _ (c .before .before .before .before .before .if2 .left), ne-eqb _ _ (c .before .before .before .before .if3 .left), le-ltb _ _ (c .before .before .if4 .left), le-ltb _ _ (c .before .if5 .left))
     (ap value (c .integer-row .ensures))
 
 pub integer-dot-spec : {M : Type 1} → statement M

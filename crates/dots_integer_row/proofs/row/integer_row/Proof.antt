@@ -4,11 +4,11 @@ use Prim.Native.Nat.{_+_, _-_, _*_, _≤_}
 use native.Mathlib.Omega.{arith}
 use lib.ListN.{length}
 use lib.Seq.{length-take-le}
+use Rattle.memory.specs.Lists.{stretchesIn}
 use Rattle.memory.proofs.Filled.{part-length}
 use Rattle.memory.proofs.Parts.{within}
 use Rattle.dots_activation.specs.Blocks.{SmallSums}
 use Rattle.dots_activation.specs.declared.block.Q8Block.{Q8Block}
-use Rattle.dots_integer_row.specs.Rows.{blocksIn}
 use Rattle.dots_integer.proofs.Bounds.{small-sums}
 use Rattle.dots_integer_row.proofs.Rows.{block-is, Dots, dots-start, dots-more, dots-met}
 use Rattle.dots_integer_row.proofs.row.integer_row.Statement.{statement}
@@ -18,7 +18,7 @@ abbrev Inv-loop : tie.InvT-loop
 Inv-loop format x w n size blocks dots₀ b₀ dots b = Dots format x w n dots₀ dots b
 
 abbrev μ-loop : tie.MeasureT-loop
-μ-loop format x w n size blocks dots₀ b₀ dots b = blocksIn n - b
+μ-loop format x w n size blocks dots₀ b₀ dots b = stretchesIn 256 n - b
 
 block-bytes-requires : tie.Need-block-bytes-requires Inv-loop μ-loop
 block-bytes-requires c κs = omega arith
@@ -44,8 +44,8 @@ inside c =
     let l = c .before .before in
     let r = l .before .before .block-bytes in
     let s = l .before .before .before .before .before in
-    let room : blocksIn (s .args .n) * r .result ≤ length (s .args .w .now) = rw (r .ensures) (s .pre .2) in
-    within (l .loop .b) (r .result) (blocksIn (s .args .n)) (length (s .args .w .now)) (omega arith) room
+    let room : stretchesIn 256 (s .args .n) * r .result ≤ length (s .args .w .now) = rw (r .ensures) (s .pre .2) in
+    within (l .loop .b) (r .result) (stretchesIn 256 (s .args .n)) (length (s .args .w .now)) (omega arith) room
 
 mul-from : tie.Need-mul-from Inv-loop μ-loop
 mul-from c = omega (arith, inside c)
