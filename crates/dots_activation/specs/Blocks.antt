@@ -41,8 +41,8 @@ unfoldable pub blockOf : List Float → Q8Block
 blockOf xs = blockWith (scaleQ8 xs) (quantsOf xs)
 
 -- `quantize_block_q8`: 4 for more than 256 readings; and otherwise the block
-unfoldable pub quantizeSays : List Float → Said Q8Block
-quantizeSays xs = given (no 4) (ltb 256 (length xs)) (value (blockOf xs))
+unfoldable pub blockSays : List Float → Said Q8Block
+blockSays xs = given (no 4) (ltb 256 (length xs)) (value (blockOf xs))
 
 -- what its answer says
 abbrev pub quantizedSays : Quantized → Said Q8Block

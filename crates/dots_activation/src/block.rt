@@ -9,7 +9,7 @@ ghost use lib.ListN.{length};
 ghost use Rattle.memory.specs.Lists.{table};
 ghost use Rattle.dots_activation.specs.Whole.{elem, Within};
 ghost use Rattle.dots_activation.specs.Blocks.{quantAt, sumOf32, sumsOf, rightAt, sumsRight, SmallSums};
-ghost use Rattle.dots_activation.specs.Blocks.{blockWith, blockOf, quantizeSays, quantizedSays, blockSaid};
+ghost use Rattle.dots_activation.specs.Blocks.{blockWith, blockOf, blockSays, quantizedSays, blockSaid};
 
 // One float scale, 256 signed quants and eight sums of 32. It is made by `block_with` and read by the block dots.
 pub struct Q8Block {
@@ -113,8 +113,8 @@ pub fn quantized_block(x: &[f32]) -> Q8Block
 
 // The block of the readings. Refuses 4 for more than 256 of them.
 pub fn quantize_block_q8(x: &[f32]) -> Quantized
-    ensures { λ r. ⌜ (quantizedSays r ≡ quantizeSays (now (x .entry)))
-        × (r .block ≡ blockSaid (quantizeSays (now (x .entry)))) ⌝ }
+    ensures { λ r. ⌜ (quantizedSays r ≡ blockSays (now (x .entry)))
+        × (r .block ≡ blockSaid (blockSays (now (x .entry)))) ⌝ }
 {
     if x.len() > 256 {
         let block = Q8Block {

@@ -4,7 +4,7 @@ use c_answers::lay_out;
 use c_answers::lay_out_block;
 use layouts::FormatK;
 ghost use mathlib.Core.Path.{_≡_};
-ghost use Rattle.dots_activation.specs.Blocks.{quantizeSays};
+ghost use Rattle.dots_activation.specs.Blocks.{blockSays};
 ghost use Rattle.dots_integer.specs.Dots.{blockDotSays};
 ghost use Rattle.dots_integer_row.specs.Rows.{integerSays};
 ghost use Rattle.c_answers.specs.Answers.{laidOut};
@@ -19,7 +19,7 @@ pub extern "C" fn jambharrow_quantize_block_q8(
     bsums: &mut [i32; 8],
 ) -> u32
     ensures { λ r. ⌜ (r, blockIn (now (d .exit)) (now (qs .exit)) (now (bsums .exit)))
-        ≡ laidOut (quantizeSays (now (x .entry)))
+        ≡ laidOut (blockSays (now (x .entry)))
         (blockIn (now (d .entry)) (now (qs .entry)) (now (bsums .entry))) ⌝ }
 {
     lay_out_block(dots_activation::quantize_block_q8(x), d, qs, bsums)

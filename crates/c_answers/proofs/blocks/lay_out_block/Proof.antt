@@ -1,5 +1,6 @@
 -- `blocks::lay_out_block` meets its contract: a case for each answer of the check. Assumes nothing.
 use borrow.Author.Needs.{needs}
+use Rattle.refusals.specs.Refusals.{orElse}
 use Rattle.c_answers.specs.Answers.{laidOut}
 use Rattle.c_answers.proofs.blocks.lay_out_block.Statement.{statement}
 use Rattle.c_answers.proofs.blocks.lay_out_block.Tie as tie
@@ -8,14 +9,14 @@ enum-known-checked : tie.Need-enum-known-checked
 enum-known-checked c = search needs
 
 returns : tie.Need-returns
-unfolding laidOut
+unfolding laidOut orElse
 returns c = rw (c .before .checked .given .1)
 
 enum-told : tie.Need-enum-told
 enum-told c = search needs
 
 returns-2 : tie.Need-returns-2
-unfolding laidOut
+unfolding laidOut orElse
 returns-2 c = rw (c .before .before .enum-told .given .1)
 
 pub lay-out-block-spec : {M : Type 1} → statement M
