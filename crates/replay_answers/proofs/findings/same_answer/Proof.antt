@@ -20,7 +20,7 @@ returns-2 : tie.Need-returns-2
 returns-2 c = rw (c .before .before .ours .given .1, ne-eqb _ 0 (c .if1 .left))
 
 returns-3 : tie.Need-returns-3
-returns-3 c = rw (c .before .ours2 .given .1)
+returns-3 c = rw (c .before .before .ours2 .given .1)
 
 pub same-answer-spec : {M : Type 1} → statement M
 same-answer-spec =

@@ -13,7 +13,7 @@ returns : tie.Need-returns
 returns c = rw (c .enum-told .given .1)
 
 returns-2 : tie.Need-returns-2
-returns-2 c = rw (c .before .ours .given .1)
+returns-2 c = rw (c .before .before .ours .given .1)
 
 pub says-spec : {M : Type 1} → statement M
 says-spec = tie.close (tie.spec enum-told enum-known-ours returns returns-2)
