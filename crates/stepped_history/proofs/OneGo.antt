@@ -1,6 +1,6 @@
 -- What the rows come to: the one-go dot of demand 3 is what the row dots of other crates say of the same row, and a layer with no readings has no pieces. Assumes nothing.
 use Prim.Native.Nat.{ℕ, _*_, _%_, _<_}
-use mathlib.Core.Path.{_≡_, refl, sym, ap, _∙_}
+use mathlib.Core.Path.{_≡_, sym, ap, _∙_}
 use mathlib.Core.List.{List}
 use native.Mathlib.Omega.{arith}
 use native.Mathlib.Nat.{mul-zero, le-refl}

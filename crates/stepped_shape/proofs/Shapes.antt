@@ -1,6 +1,6 @@
 -- What follows where a call's checks refuse nothing: the layer's shape, its room, and where its pieces and rows lie. Assumes nothing.
-use Prim.Native.Nat.{ℕ, _+_, _-_, _*_, _%_, _≤_, _<_}
-use mathlib.Core.Path.{_≡_, refl, sym}
+use Prim.Native.Nat.{ℕ, _+_, _*_, _%_, _≤_, _<_}
+use mathlib.Core.Path.{_≡_, sym}
 use mathlib.Core.List.{List}
 use native.Mathlib.Omega.{arith}
 use native.Mathlib.Nat.{le-of-eq, mul-le-mul}
@@ -13,7 +13,7 @@ use Rattle.memory.proofs.Parts.{within}
 use Rattle.layouts.specs.Weights.{valuesOf}
 use Rattle.layouts.specs.declared.format.FormatK.{FormatK}
 use Rattle.layouts.specs.declared.format.Format.the-variants.{OfK}
-use Rattle.layers_shape.specs.Shapes.{rowBytes, weightBytes}
+use Rattle.layers_shape.specs.Shapes.{rowBytes}
 use Rattle.layers_shape.proofs.Rows.{row-values}
 use Rattle.stepped_shape.specs.declared.shape.Layer.{Layer}
 use Rattle.stepped_shape.specs.Layer.{chunks, pieces, place, openInRow}

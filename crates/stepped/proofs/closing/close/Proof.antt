@@ -1,7 +1,7 @@
 -- `closing::close` meets its contract: a refusal, or the row's output written. Assumes nothing.
 use borrow.Author.Needs.{needs}
 use native.Mathlib.Omega.{arith}
-use mathlib.Core.Path.{ap, _∙_}
+use mathlib.Core.Path.{_∙_}
 use lib.ListN.{length}
 use denote.Ref.{now}
 use Rattle.refusals.proofs.Laws.{check-passed, refused-out, done-out}
