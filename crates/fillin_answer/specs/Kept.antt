@@ -16,25 +16,41 @@ begun = record { layer = layerOf 4 0 0; «weight_bytes» = 0; offset = 0; answer
 -- the latest layer is l, whose weights have so many bytes
 abbrev pub withLayer : Layer → (bytes : ℕ) → State → State
 withLayer l bytes st = record {
-  layer = l; «weight_bytes» = bytes; offset = st .offset; answered = st .answered; refused = st .refused
+  layer = l;
+  «weight_bytes» = bytes;
+  offset = st .offset;
+  answered = st .answered;
+  refused = st .refused;
 }
 
 -- a record of so many bytes is answered: the next one begins behind it
 abbrev pub behind : (bytes : ℕ) → State → State
 behind bytes st = record {
-  layer = st .layer; «weight_bytes» = st .«weight_bytes»; offset = st .offset + bytes; answered = st .answered; refused = st .refused
+  layer = st .layer;
+  «weight_bytes» = st .«weight_bytes»;
+  offset = st .offset + bytes;
+  answered = st .answered;
+  refused = st .refused;
 }
 
 -- a window more is answered
 abbrev pub oneAnswered : State → State
 oneAnswered st = record {
-  layer = st .layer; «weight_bytes» = st .«weight_bytes»; offset = st .offset; answered = st .answered + 1; refused = st .refused
+  layer = st .layer;
+  «weight_bytes» = st .«weight_bytes»;
+  offset = st .offset;
+  answered = st .answered + 1;
+  refused = st .refused;
 }
 
 -- a window more is refused
 abbrev pub oneRefused : State → State
 oneRefused st = record {
-  layer = st .layer; «weight_bytes» = st .«weight_bytes»; offset = st .offset; answered = st .answered; refused = st .refused + 1
+  layer = st .layer;
+  «weight_bytes» = st .«weight_bytes»;
+  offset = st .offset;
+  answered = st .answered;
+  refused = st .refused + 1;
 }
 
 -- ---- what answering a record relies on, and what it leaves
