@@ -1,2 +1,3 @@
--- The rows of a layer that is run to its end and closed.
+-- As many outputs as a layer has rows, and rows that meet in their dots.
+pub mod Many
 pub mod Rows

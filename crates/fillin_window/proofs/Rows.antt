@@ -1,30 +1,38 @@
 -- A layer that is opened, run to its end and closed row by row: each output is its row's dot in one go. Assumes nothing.
-use Prim.Native.Nat.{ℕ, _+_, _-_, _*_, _≤_, _<_}
+use Prim.{Unit}
+use Prim.Native.Nat.{ℕ, _+_, _-_, _*_, _≤_, _<_, min}
 use mathlib.Core.Path.{_≡_, refl, sym, ap, subst, _∙_}
+use mathlib.Core.Bool.{not}
 use mathlib.Core.List.{List, [], _∷_, _++_, List·Memᴰ, List·Memᴰ·head}
-use native.Mathlib.Nat.{le-refl, min-eq-right}
+use native.Mathlib.Nat.{le-refl, le-trans, mul-le-mul-left, mul-one, min-eq-right}
 use native.Mathlib.Omega.{arith}
 use borrow.Author.Tests.{le-ltb, lt-leb, eq-eqb}
-use lib.Dec.{lit<}
 use lib.ListN.{length, take, drop, getD, set}
 use lib.Seq.{take-add, getD-set-same}
 use lib.Ieee.{Float, nan}
-use Rattle.refusals.specs.Said.{Said, done}
-use Rattle.refusals.specs.Refusals.{none}
-use Rattle.refusals.proofs.Laws.{given-no, given-none, else-later, else-none, carried-done}
+use Rattle.refusals.specs.declared.Refusal.{Refusal}
+use Rattle.refusals.specs.Said.{Said, value, refused, done}
+use Rattle.refusals.specs.Sizes.{mostIn, mostOut}
+use Rattle.refusals.proofs.Laws.{apart, given-no, else-later}
 use Rattle.memory.specs.Lists.{table, filled}
 use Rattle.memory.proofs.Filled.{table-ext, length-table}
+use Rattle.layouts.specs.Formats.{formatNamed}
+use Rattle.layouts.specs.declared.format.FormatK.{FormatK}
+use Rattle.layouts.specs.declared.format.Named.the-variants.{Known}
+use Rattle.layers_shape.specs.Shapes.{weightBytes}
 use Rattle.stepped_shape.specs.declared.shape.Layer.{Layer}
-use Rattle.stepped_shape.specs.Layer.{chunks, pieces, openCount, openOf, openInRow}
-use Rattle.stepped_shape.specs.Refusals.{openNo, workNo, closeNo}
-use Rattle.stepped_shape.proofs.Shapes.{row-within, workable}
+use Rattle.stepped_shape.specs.Layer.{Memory, memory, chunks, pieces, openCount, openOf, openInRow}
+use Rattle.stepped_shape.specs.Refusals.{shapeRefusal, roomRefusal, openRefusal, workRefusal, closeRefusal}
+use Rattle.stepped_shape.proofs.Shapes.{row-within}
+use Rattle.stepped_shape.proofs.Says.{known-value, known-said}
 use Rattle.stepped_shape.proofs.Marks.{open-append}
-use Rattle.stepped.specs.Says as said
-use Rattle.stepped.specs.Says.{RunSaid, openSays, runSays, rowMet, closeSays}
+use Rattle.stepped_pieces.specs.Pieces.{rowMet}
+use Rattle.stepped.specs.Says.{Ran, ran, runWork, openSays, runSays, closeSays}
 use Rattle.stepped_history.specs.History.{inOneGo, run, close, closedBy, call, calls, opened}
-use Rattle.stepped.proofs.Answers.{ran-done}
 use Rattle.stepped.proofs.Counts.{run-counts}
 use Rattle.stepped_history.proofs.History.{demand3}
+use Rattle.fillin_window.specs.Windows.{Sound, outputsOf}
+use Rattle.fillin_window.specs.Inner.{Run}
 
 -- no piece of the layer is open: none of a row is
 none-in-row : (l : Layer) (marks : List ℕ) (row : ℕ) → row < l .«out_feat» → openOf l marks ≡ 0 → openInRow l marks row ≡ 0
@@ -41,115 +49,129 @@ none-in-row l marks row h z =
     let two = ap openCount (take-add n rest (drop a marks)) in
     omega (arith, whole, front, back, one, two)
 
-module _ (l : Layer) (slots : List Float) (marks : List ℕ) (y : List Float) (row : ℕ)
-    (open-ok : openNo l (length slots) (length marks) ≡ none) (all-done : openOf l marks ≡ 0) (room : l .«out_feat» ≤ length y) (inside : row < l .«out_feat») where
-  accepted : closeNo l (length slots) marks (length y) row ≡ none
-  unfolding closeNo
-  accepted =
-      else-later _ _ open-ok
-      ∙ given-no 5 _ _ (le-ltb _ _ room)
-      ∙ given-no 8 _ _ (lt-leb _ _ inside)
-      ∙ given-no 10 _ _ (simp (eq-eqb _ _ (none-in-row l marks row inside all-done)))
+-- a layer that is run to its end: a row is closed
+pub closes : (l : Layer) (m : Memory) (y : List Float) (row : ℕ) → Run l m → l .«out_feat» ≤ length y → row < l .«out_feat» → closeSays l row m y ≡ (done, set y row (rowMet l (m .slots) row))
+unfolding closeSays closeRefusal
+closes l m y row r room inside =
+    known-value _ _ _ (r .named) _
+    (else-later _ _ (r .openable)
+    ∙ given-no _ _ _ (le-ltb _ _ room)
+    ∙ given-no _ _ _ (lt-leb _ _ inside)
+    ∙ given-no _ _ _ (simp (eq-eqb _ _ (none-in-row l (m .marks) row inside (r .all-done)))))
 
-  pub closes : closeSays l row slots marks y ≡ (done, set y row (rowMet l slots row))
-  unfolding closeSays
-  closes = carried-done _ _ _ accepted
+-- ---- the stepped layer does not refuse a layer of a layer record
+
+module _ (l : Layer) (weights : ℕ) (s : Sound l weights) where
+  shape : shapeRefusal l ≡ done
+  unfolding shapeRefusal
+  shape =
+      given-no _ _ _ (le-ltb mostIn (l .«in_feat») (omega (arith, s .inputs)))
+      ∙ given-no _ _ _ (le-ltb mostOut (l .«out_feat») (omega (arith, s .outputs)))
+      ∙ given-no _ _ _ (ap not (eq-eqb _ _ (s .blocks)))
+
+  -- it has one chunk a row, and at most 16 pieces
+  few : pieces l ≤ 16
+  unfolding pieces chunks
+  few =
+      let one : chunks l ≤ 1 = omega (arith, s .inputs) in
+      le-trans (mul-le-mul-left (l .«out_feat») one) (rw mul-one (s .outputs))
+
+  roomy : roomRefusal l 16 16 ≡ done
+  unfolding roomRefusal
+  roomy = given-no _ _ _ (le-ltb _ _ few) ∙ given-no _ _ _ (le-ltb _ _ few)
+
+  opens : openRefusal l 16 16 ≡ done
+  unfolding openRefusal
+  opens = else-later _ _ shape ∙ roomy
+
+  works : workRefusal (s .known) l weights (l .«in_feat») 16 16 ≡ done
+  unfolding workRefusal
+  works =
+      let enough : weightBytes (s .known) (l .«in_feat») (l .«out_feat») ≤ weights = omega (arith, s .weighed) in
+      else-later _ _ shape
+      ∙ given-no _ _ _ (le-ltb _ _ enough)
+      ∙ given-no _ _ _ (le-ltb _ _ (le-refl (l .«in_feat»)))
+      ∙ roomy
 
 -- ---- opened, then run with a budget for every piece
 
--- a layer that run accepts is opened
-module _ (l : Layer) (weights readings : ℕ) (slots : List Float) (marks : List ℕ) (ok : workNo l weights readings (length slots) (length marks) ≡ none) where
-  open-ok : openNo l (length slots) (length marks) ≡ none
-  unfolding openNo workNo
-  open-ok =
-      let a = else-none _ _ ok in
-      let b = given-none 3 _ _ (lit< tt) (a .1) in
-      else-later _ _ (a .0) ∙ given-none 4 _ _ (lit< tt) (b .1) .1
-
-  pub open-done : openSays l slots marks .0 ≡ done
-  unfolding openSays
-  open-done = ap (λ (p : Said × (List Float × List ℕ)). p .0) (carried-done _ _ _ open-ok)
-
 -- what open said and left, and then run: neither refused, every piece is done, and each row meets in its dot in one go
-pub record Worked (l : Layer) (w : List ℕ) (x : List Float) (o : Said × (List Float × List ℕ)) (r : RunSaid × (List Float × List ℕ)) : Type 0 where
+pub record Worked (l : Layer) (w : List ℕ) (x : List Float) (o : Said (Unit {0}) × Memory) (r : Said Ran × Memory) : Type 0 where
   pub opened-done : o .0 ≡ done
-  pub not-refused : (num : ℕ) → r .0 ≡ said.refused num → ⊥
-  pub closable : openNo l (length (r .1 .0)) (length (r .1 .1)) ≡ none
-  pub all-closed : openOf l (r .1 .1) ≡ 0
-  pub dots : (y : List Float) → filled (rowMet l (r .1 .0)) y (l .«out_feat») ≡ filled (inOneGo l w x) y (l .«out_feat»)
+  pub not-refused : (why : Refusal) → r .0 ≡ refused why → ⊥
+  pub runs-out : Run l (r .1)
+  pub dots : (y : List Float) → filled (rowMet l (r .1 .slots)) y (l .«out_feat») ≡ outputsOf l w x ++ drop (l .«out_feat») y
 
-module _ (l : Layer) (w : List ℕ) (x : List Float) (budget : ℕ) (slots : List Float) (marks : List ℕ)
-    (ok : workNo l (length w) (length x) (length slots) (length marks) ≡ none) (enough : pieces l ≤ budget) where
-  opens : openSays l slots marks .0 ≡ done
-  opens = open-done l (length w) (length x) slots marks ok
+-- memory with 16 slots and 16 marks
+abbrev pub Sixteen : Memory → Type 0
+Sixteen m = (length (m .slots) ≡ 16) × (length (m .marks) ≡ 16)
+
+module _ (l : Layer) (w : List ℕ) (x : List Float) (s : Sound l (length w)) (long : length x ≡ l .«in_feat») (m : Memory) (room : Sixteen m) where
+  pub open-done : openSays l m .0 ≡ done
+  unfolding openSays
+  open-done = known-said _ _ _ (s .named) ∙ rw (room .0, room .1) (opens l (length w) s)
 
   -- what open and run leave
-  abbrev opened-memory : List Float × List ℕ
-  opened-memory = openSays l slots marks .1
+  abbrev after-open : Memory
+  after-open = openSays l m .1
 
-  abbrev run-memory : List Float × List ℕ
-  run-memory = runSays l w x budget (opened-memory .0) (opened-memory .1) .1
+  abbrev after-run : Memory
+  after-run = runSays l w x 16 after-open .1
 
-  module _ (same-slots : length (opened-memory .0) ≡ length slots) (same-marks : length (opened-memory .1) ≡ length marks) where
-    work-ok : workNo l (length w) (length x) (length (opened-memory .0)) (length (opened-memory .1)) ≡ none
-    work-ok = rw (same-slots, same-marks) ok
+  module _ (kept : Sixteen after-open) where
+    -- run does not refuse: what it says and leaves
+    runs : runSays l w x 16 after-open ≡ (value (ran (min 16 (openOf l (after-open .marks))) (openOf l (runWork (s .known) l w x 16 after-open .holds .marks))), runWork (s .known) l w x 16 after-open .holds)
+    unfolding runSays
+    runs = known-value _ _ _ (s .named) _ (else-later _ _ (rw (long, kept .0, kept .1) (works l (length w) s)))
 
-    -- every piece is open before the run
-    open-before : openOf l (opened-memory .1) ≡ pieces l
+    -- every piece is open before the run, and none is after it
+    none-open : openOf l (after-run .marks) ≡ 0
     unfolding calls opened
-    open-before = omega (arith, demand3 l w x slots marks [] opens [] .counted)
-
-    -- and none is after it
-    none-open : openOf l (run-memory .1) ≡ 0
-    unfolding runSays
     none-open =
-        let r = run-counts l w x budget (opened-memory .1) (opened-memory .0) (workable _ _ _ _ _ work-ok .has-room .marks-enough) in
-        let few : openOf l (opened-memory .1) ≤ budget = rw open-before enough in
-        let all = r .did ∙ min-eq-right few in
-        let left = ap (λ (p : RunSaid × (List Float × List ℕ)). openOf l (p .1 .1)) (ran-done _ _ _ _ _ work-ok) in
-        left ∙ omega (arith, r .left, all)
+        let before = demand3 (s .known) l w x (s .named) m [] open-done [] .counted in
+        let pieces-few = few l (length w) s in
+        let r = run-counts (s .known) l w x 16 after-open (rw (kept .1) pieces-few) in
+        let all = r .did ∙ min-eq-right (omega arith) in
+        ap (λ (p : Said Ran × Memory). openOf l (p .1 .marks)) runs ∙ omega (arith, r .left, all)
 
-    -- run does not refuse
-    runs : (num : ℕ) → runSays l w x budget (opened-memory .0) (opened-memory .1) .0 ≡ said.refused num → ⊥
-    unfolding runSays
-    runs num e =
-        let clash = sym (ap (λ (p : RunSaid × (List Float × List ℕ)). p .0) (ran-done _ _ _ _ _ work-ok)) ∙ e in
-        let z : _≡_ {A = ℕ} 0 1 = cc clash in
-        absurd (omega arith)
-
-    module _ (run-slots : length (run-memory .0) ≡ length slots) (run-marks : length (run-memory .1) ≡ length marks) where
-      closing-ok : openNo l (length (run-memory .0)) (length (run-memory .1)) ≡ none
-      closing-ok = rw (run-slots, run-marks) (open-ok l (length w) (length x) slots marks ok)
+    module _ (left : Sixteen after-run) where
+      run-out : Run l after-run
+      run-out = record { known = s .known; named = s .named; openable = rw (left .0, left .1) (opens l (length w) s); all-done = none-open }
 
       -- each row meets in its dot in one go
-      row-met : (row : ℕ) → row < l .«out_feat» → rowMet l (run-memory .0) row ≡ inOneGo l w x row
+      row-met : (row : ℕ) → row < l .«out_feat» → rowMet l (after-run .slots) row ≡ inOneGo (s .known) l w x row
       unfolding calls call opened
       row-met row h =
           let y = table (λ (i : ℕ). nan) (l .«out_feat») in
-          let room : l .«out_feat» ≤ length y = rw length-table (le-refl _) in
-          let e = closes l (run-memory .0) (run-memory .1) y row closing-ok none-open room h in
-          let told : closeSays l row (run-memory .0) (run-memory .1) y .0 ≡ done = ap (λ (p : Said × List Float). p .0) e in
-          let left : closeSays l row (run-memory .0) (run-memory .1) y .1 ≡ set y row (rowMet l (run-memory .0) row) = ap (λ (p : Said × List Float). p .1) e in
-          let closed : List·Memᴰ row (closedBy (closeSays l row (run-memory .0) (run-memory .1) y .0) row []) = rw told (List·Memᴰ·head refl) in
-          sym (getD-set-same y row (rowMet l (run-memory .0) row) nan (rw length-table h))
-          ∙ ap (λ (ys : List Float). getD ys row nan) (sym left)
-          ∙ demand3 l w x slots marks y opens (run budget ∷ close row ∷ []) .rows row closed
+          let met = rowMet l (after-run .slots) row in
+          let e = closes l after-run y row run-out (rw length-table (le-refl _)) h in
+          let told : closeSays l row after-run y .0 ≡ done = ap (λ (p : Said (Unit {0}) × List Float). p .0) e in
+          let closed : List·Memᴰ row (closedBy (closeSays l row after-run y .0) row []) = rw told (List·Memᴰ·head refl) in
+          sym (getD-set-same y row met nan (rw length-table h))
+          ∙ ap (λ (p : Said (Unit {0}) × List Float). getD (p .1) row nan) (sym e)
+          ∙ demand3 (s .known) l w x (s .named) m y open-done (run 16 ∷ close row ∷ []) .rows row closed
 
-      outputs-met : (y : List Float) → filled (rowMet l (run-memory .0)) y (l .«out_feat») ≡ filled (inOneGo l w x) y (l .«out_feat»)
-      outputs-met y = ap (λ (ys : List Float). ys ++ drop (l .«out_feat») y) (table-ext _ _ (l .«out_feat») row-met)
+      met : (y : List Float) → filled (rowMet l (after-run .slots)) y (l .«out_feat») ≡ outputsOf l w x ++ drop (l .«out_feat») y
+      met y = rw (s .named) (ap (λ (ys : List Float). ys ++ drop (l .«out_feat») y) (table-ext _ _ (l .«out_feat») row-met))
 
   -- both calls keep the lengths of what they are lent
-  abbrev Worked-as-long : Said × (List Float × List ℕ) → RunSaid × (List Float × List ℕ) → Type 0
-  Worked-as-long o r = length (o .1 .0) ≡ length slots → length (o .1 .1) ≡ length marks → length (r .1 .0) ≡ length slots → length (r .1 .1) ≡ length marks → Worked l w x o r
+  abbrev Worked-as-long : Said (Unit {0}) × Memory → Said Ran × Memory → Type 0
+  Worked-as-long o r = Sixteen (o .1) → Sixteen (r .1) → Worked l w x o r
 
-  pub worked : (o : Said × (List Float × List ℕ)) → o ≡ openSays l slots marks → (r : RunSaid × (List Float × List ℕ)) → r ≡ runSays l w x budget (o .1 .0) (o .1 .1) → Worked-as-long o r
+  pub worked : (o : Said (Unit {0}) × Memory) → o ≡ openSays l m → (r : Said Ran × Memory) → r ≡ runSays l w x 16 (o .1) → Worked-as-long o r
   worked o e r e' =
       subst
-      (λ (q : Said × (List Float × List ℕ)). (t : RunSaid × (List Float × List ℕ)) → t ≡ runSays l w x budget (q .1 .0) (q .1 .1) → Worked-as-long q t)
+      (λ (q : Said (Unit {0}) × Memory). (t : Said Ran × Memory) → t ≡ runSays l w x 16 (q .1) → Worked-as-long q t)
       (sym e)
-      (λ t k. subst (Worked-as-long (openSays l slots marks)) (sym k) itself)
+      (λ t k. subst (Worked-as-long (openSays l m)) (sym k) itself)
       r
       e'
     where
-      itself : Worked-as-long (openSays l slots marks) (runSays l w x budget (opened-memory .0) (opened-memory .1))
-      itself a b d f = record { opened-done = opens; not-refused = runs a b; closable = closing-ok a b d f; all-closed = none-open a b; dots = outputs-met a b d f }
+      itself : Worked-as-long (openSays l m) (runSays l w x 16 after-open)
+      itself a b =
+          record {
+            opened-done = open-done;
+            not-refused = λ why z. apart why _ (sym z ∙ ap (λ (p : Said Ran × Memory). p .0) (runs a));
+            runs-out = run-out a b;
+            dots = met a b;
+          }

@@ -1,2 +1,3 @@
--- What a window holds.
+-- What a window holds and what is put out for it.
 pub mod Windows
+pub mod Inner

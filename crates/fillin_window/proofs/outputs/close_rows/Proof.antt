@@ -1,4 +1,5 @@
 -- `outputs::close_rows` meets its contract: a row a turn. Assumes nothing.
+use Prim.{Unit}
 use mathlib.Core.Path.{_≡_, refl, ap, _∙_}
 use Prim.Native.Nat.{_-_, _≤_, _<_, zero-le}
 use native.Mathlib.Omega.{arith}
@@ -10,7 +11,8 @@ use Rattle.refusals.specs.Said.{Said, done, outcomeSays}
 use Rattle.refusals.proofs.Laws.{never-refused}
 use Rattle.memory.specs.Lists.{filled}
 use Rattle.memory.proofs.Filled.{filled-none, filled-more}
-use Rattle.stepped.specs.Says.{rowMet}
+use Rattle.stepped_shape.specs.Layer.{memory}
+use Rattle.stepped_pieces.specs.Pieces.{rowMet}
 use Rattle.fillin_window.proofs.Rows.{closes}
 use Rattle.fillin_window.proofs.outputs.close_rows.Statement.{statement}
 use Rattle.fillin_window.proofs.outputs.close_rows.Tie as tie
@@ -32,21 +34,21 @@ module _ (c : tie.After-close Inv-loop μ-loop) where
   turn :
       (let l = c .before .before .before .loop in
       let a = c .before .before .before .before .before .before .before .args in
-      _≡_ {A = Said × List Float} (outcomeSays (c .close .result), c .close .last .1 .1 .1 .1 .0) (done, set (l .y) (l .row) (rowMet (a .l) (a .slots .now) (l .row))))
+      _≡_ {A = Said (Unit {0}) × List Float} (outcomeSays (c .close .result), c .close .last .1 .1 .1 .1 .0) (done, set (l .y) (l .row) (rowMet (a .l) (a .slots .now) (l .row))))
   turn =
       let l = c .before .before .before .loop in
       let t = c .before .before .before .before .before .before .before in
       let a = t .args in
-      c .close .ensures ∙ closes (a .l) (a .slots .now) (a .marks .now) (l .y) (l .row) (t .pre .0) (t .pre .1) (omega (arith, l .inv .2, t .pre .2)) (c .before .before .loop-test .taken)
+      c .close .ensures ∙ closes (a .l) (memory (a .slots .now) (a .marks .now)) (l .y) (l .row) (t .pre .0) (omega (arith, l .inv .2, t .pre .1)) (c .before .before .loop-test .taken)
 
   closed : outcomeSays (c .close .result) ≡ done
-  closed = ap (λ (p : Said × List Float). p .0) turn
+  closed = ap (λ (p : Said (Unit {0}) × List Float). p .0) turn
 
   filled-on :
       (let l = c .before .before .before .loop in
       let a = c .before .before .before .before .before .before .before .args in
       c .close .last .1 .1 .1 .1 .0 ≡ set (l .y) (l .row) (rowMet (a .l) (a .slots .now) (l .row)))
-  filled-on = ap (λ (p : Said × List Float). p .1) turn
+  filled-on = ap (λ (p : Said (Unit {0}) × List Float). p .1) turn
 
 enum-told : tie.Need-enum-told Inv-loop μ-loop
 enum-told c = search needs
@@ -71,7 +73,7 @@ loop-again c =
     let d = c .before .before .before .before in
     let l = d .before .before .before .loop in
     let a = d .before .before .before .before .before .before .before .args in
-    let within : l .row < length (a .y .now) = omega (arith, d .before .before .loop-test .taken, d .before .before .before .before .before .before .before .pre .2) in
+    let within : l .row < length (a .y .now) = omega (arith, d .before .before .loop-test .taken, d .before .before .before .before .before .before .before .pre .1) in
     let e = filled-on d in (
       e ∙ ap (λ (ys : List Float). set ys (l .row) (rowMet (a .l) (a .slots .now) (l .row))) (l .inv .0) ∙ filled-more (rowMet (a .l) (a .slots .now)) (a .y .now) (l .row) nan within,
       omega arith,

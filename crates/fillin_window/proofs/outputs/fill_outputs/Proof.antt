@@ -1,12 +1,13 @@
 -- `outputs::fill_outputs` meets its contract. Assumes nothing.
-use mathlib.Core.Path.{_≡_, ap, _∙_}
+use Prim.{Unit}
+use mathlib.Core.Path.{_≡_, refl, ap, _∙_}
 use Prim.Native.Nat.{ℕ}
 use borrow.Author.Needs.{needs}
 use mathlib.Core.List.{List}
 use lib.ListN.{length}
 use lib.Ieee.{Float}
 use Rattle.refusals.specs.Said.{Said, done, outcomeSays}
-use Rattle.stepped_shape.proofs.Shapes.{workable}
+use Rattle.stepped_shape.specs.Layer.{Memory, memory}
 use Rattle.stepped.specs.Says.{progressSays}
 use Rattle.refusals.proofs.Laws.{never-refused}
 use Rattle.fillin_window.proofs.Rows.{open-done, Worked, worked}
@@ -36,13 +37,15 @@ module _ (c : tie.After-run) where
   lengths : (length (c .before .before .before .before .before .before .before .«open» .last .1 .0) ≡ 16) × (length (c .before .before .before .before .before .before .before .«open» .last .1 .1 .0) ≡ 16) × (length (c .run .last .1 .1 .1 .1 .0) ≡ 16) × (length (c .run .last .1 .1 .1 .1 .1 .0) ≡ 16)
   lengths = search needs
 
-  facts : Worked (start .args .l) (start .args .w .now) (start .args .x .now) (outcomeSays (c .before .before .before .before .before .before .before .«open» .result), (c .before .before .before .before .before .before .before .«open» .last .1 .0, c .before .before .before .before .before .before .before .«open» .last .1 .1 .0)) (progressSays (c .run .result), (c .run .last .1 .1 .1 .1 .0, c .run .last .1 .1 .1 .1 .1 .0))
+  facts : Worked (start .args .l) (start .args .w .now) (start .args .x .now) (outcomeSays (c .before .before .before .before .before .before .before .«open» .result), memory (c .before .before .before .before .before .before .before .«open» .last .1 .0) (c .before .before .before .before .before .before .before .«open» .last .1 .1 .0)) (progressSays (c .run .result), memory (c .run .last .1 .1 .1 .1 .0) (c .run .last .1 .1 .1 .1 .1 .0))
   facts =
-      worked _ _ _ 16 _ _ (start .pre .0) (workable _ _ _ _ _ (start .pre .0) .has-room .slots-enough) _ (c .before .before .before .before .before .before .before .«open» .ensures) _ (c .run .ensures) (lengths .0) (lengths .1) (lengths .2) (lengths .3)
+      worked (start .args .l) (start .args .w .now) (start .args .x .now) (start .pre .0) (start .pre .1) _ (refl, refl) _ (c .before .before .before .before .before .before .before .«open» .ensures) _ (c .run .ensures) (lengths .0, lengths .1) (lengths .2, lengths .3)
 
 -- open does not refuse
 opens : (c : tie.After-open) → outcomeSays (c .«open» .result) ≡ done
-opens c = ap (λ (p : Said × (List Float × List ℕ)). p .0) (c .«open» .ensures) ∙ open-done _ _ _ _ _ (c .before .before .before .before .before .before .pre .0)
+opens c =
+    let t = c .before .before .before .before .before .before in
+    ap (λ (p : Said (Unit {0}) × Memory). p .0) (c .«open» .ensures) ∙ open-done (t .args .l) (t .args .w .now) (t .args .x .now) (t .pre .0) (t .pre .1) _ (refl, refl)
 
 returns : tie.Need-returns
 returns c = absurd (never-refused _ _ (opens (c .before .before .before .before)) (c .enum-told2 .given .1))
@@ -72,7 +75,7 @@ slice-aggregate-close-rows-2 : tie.Need-slice-aggregate-close-rows-2
 slice-aggregate-close-rows-2 c = search needs
 
 close-rows-requires : tie.Need-close-rows-requires
-close-rows-requires c κs = let f = facts (c .before .before .before .before .before .before .before) in (f .closable, f .all-closed, c .before .before .before .before .before .before .before .before .before .before .before .before .before .before .before .before .before .before .before .before .pre .1)
+close-rows-requires c κs = let f = facts (c .before .before .before .before .before .before .before) in (f .runs-out, c .before .before .before .before .before .before .before .before .before .before .before .before .before .before .before .before .before .before .before .before .pre .2)
 
 same-length : tie.Need-same-length
 same-length c = search needs

@@ -7,12 +7,10 @@ use mathlib.Core.List.{List, _++_}
 use lib.ListN.{length, take, drop, length-append}
 use lib.Seq.{length-take-le, take-at}
 use lib.Ieee.{Float}
-use Rattle.memory.specs.Lists.{table, filled}
+use Rattle.memory.specs.Lists.{table}
 use Rattle.memory.proofs.Filled.{length-table}
-use Rattle.stepped_shape.specs.Refusals.{workNo}
-use Rattle.stepped_history.specs.History.{inOneGo}
 use Rattle.records.specs.Kinds.{readingAt}
-use Rattle.fillin_window.specs.Windows.{readingsIn}
+use Rattle.fillin_window.specs.Windows.{readingsOf, outputsOf}
 use Rattle.fillin_window.proofs.outputs.window_outputs.Statement.{statement}
 use Rattle.fillin_window.proofs.outputs.window_outputs.Tie as tie
 
@@ -26,13 +24,13 @@ array-borrow-prefix-x c = search needs
 lent : (c : tie.After-x) → (let n = c .before .before .before .before .before .args .l .«in_feat» in length (take n (c .before .readings-room .result)) ≡ n)
 lent c =
     let t = c .before .before .before .before .before in
-    length-take-le (t .args .l .«in_feat») (c .before .readings-room .result) (omega (arith, c .before .readings-room .ensures, t .pre .1))
+    length-take-le (t .args .l .«in_feat») (c .before .readings-room .result) (omega (arith, c .before .readings-room .ensures, t .pre .0 .inputs))
 
 slice-aggregate-readings : tie.Need-slice-aggregate-readings
 slice-aggregate-readings c = sym (lent c)
 
 readings-requires : tie.Need-readings-requires
-readings-requires c κs = omega (arith, lent c, c .before .before .before .before .before .pre .2)
+readings-requires c κs = omega (arith, lent c, c .before .before .before .before .before .pre .1)
 
 -- its places hold the readings
 module _ (c : tie.After-readings) where
@@ -42,8 +40,8 @@ module _ (c : tie.After-readings) where
   abbrev inputs : ℕ
   inputs = start .args .l .«in_feat»
 
-  shown : c .readings .last .1 .0 ≡ readingsIn (start .args .payload .now) (start .args .l)
-  shown = c .readings .ensures ∙ ap (table (readingAt (start .args .payload .now))) (lent (c .before))
+  shown : c .readings .last .1 .0 ≡ readingsOf (start .args .bytes .now) (start .args .l)
+  shown = c .readings .ensures ∙ ap (table (readingAt (start .args .bytes .now))) (lent (c .before))
 
   as-many : length (c .readings .last .1 .0) ≡ inputs
   as-many = ap length shown ∙ length-table _ inputs
@@ -62,7 +60,7 @@ fill-outputs-requires : tie.Need-fill-outputs-requires
 fill-outputs-requires c κs =
     let d = c .before .before .before in
     let t = start d in
-    (ap (λ (n : ℕ). workNo (t .args .l) (length (t .args .w .now)) n 16 16) (ap length (front d) ∙ as-many d) ∙ t .pre .0, t .pre .3)
+    (t .pre .0, ap length (front d) ∙ as-many d, t .pre .2)
 
 same-length : tie.Need-same-length
 same-length c = search needs
@@ -72,7 +70,7 @@ returns c =
     let d = c .before .before .before .before .before .before in
     let t = start d in
     let e = c .before .before .fill-outputs .ensures in
-    (e .0, e .1 ∙ ap (λ (x : List Float). filled (inOneGo (t .args .l) (t .args .w .now) x) (t .args .y .now) (t .args .l .«out_feat»)) (front d ∙ shown d))
+    (e .0, e .1 ∙ ap (λ (x : List Float). outputsOf (t .args .l) (t .args .w .now) x ++ drop (t .args .l .«out_feat») (t .args .y .now)) (front d ∙ shown d))
 
 pub window-outputs-spec : {M : Type 1} → statement M
 window-outputs-spec =
