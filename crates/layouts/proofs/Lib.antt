@@ -4,3 +4,4 @@ pub mod Sizes
 pub mod Two
 pub mod Quants
 pub mod Rows
+pub mod Scales

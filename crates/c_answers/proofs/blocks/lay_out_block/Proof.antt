@@ -17,7 +17,7 @@ enum-told c = search needs
 
 returns-2 : tie.Need-returns-2
 unfolding laidOut orElse
-returns-2 c = rw (c .before .before .enum-told .given .1)
+returns-2 c = rw (c .before .before .before .enum-told .given .1)
 
 pub lay-out-block-spec : {M : Type 1} → statement M
 lay-out-block-spec = tie.close (tie.spec enum-known-checked returns enum-told returns-2)
