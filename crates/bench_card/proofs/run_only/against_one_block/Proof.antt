@@ -1,4 +1,5 @@
 -- `run_only::against_one_block` meets its contract. Assumes nothing.
+use lib.Ieee.{Float}
 use borrow.Author.Needs.{needs}
 use mathlib.Core.Path.{ap, _∙_}
 use Rattle.refusals.specs.Said.{Said}
@@ -42,7 +43,7 @@ same-answer-requires c κs = search needs
 
 returns : tie.Need-returns
 unfolding blockOfOnes
-returns c = c .same-answer .ensures ∙ ap (λ (t : Said). sameAnswer t (c .before .before .before .before .args .number) (c .before .before .before .before .args .sum)) (c .before .canonical-dot-q4k-fused .ensures)
+returns c = c .same-answer .ensures ∙ ap (λ (t : Said Float). sameAnswer t (c .before .before .before .before .args .number) (c .before .before .before .before .args .sum)) (c .before .canonical-dot-q4k-fused .ensures)
 
 pub against-one-block-spec : {M : Type 1} → statement M
 against-one-block-spec =

@@ -1,4 +1,5 @@
 -- `run_only::against_ones` meets its contract. Assumes nothing.
+use lib.Ieee.{Float}
 use borrow.Author.Needs.{needs}
 use mathlib.Core.Path.{ap, _∙_}
 use Rattle.refusals.specs.Said.{Said}
@@ -18,7 +19,7 @@ same-answer-requires c κs = search needs
 
 returns : tie.Need-returns
 unfolding ones
-returns c = c .same-answer .ensures ∙ ap (λ (t : Said). sameAnswer t (c .before .before .before .before .args .number) (c .before .before .before .before .args .sum)) (c .before .canonical-dot-pub .ensures)
+returns c = c .same-answer .ensures ∙ ap (λ (t : Said Float). sameAnswer t (c .before .before .before .before .args .number) (c .before .before .before .before .args .sum)) (c .before .canonical-dot-pub .ensures)
 
 pub against-ones-spec : {M : Type 1} → statement M
 against-ones-spec =
