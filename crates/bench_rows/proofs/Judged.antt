@@ -24,7 +24,7 @@ use Rattle.dots_activation.specs.Blocks.{blockSaid, blockSays}
 use Rattle.dots_activation.specs.declared.block.Q8Block.{Q8Block}
 use Rattle.memory.proofs.Every.{every-all}
 use Rattle.replay_answers.specs.Same.{saysNumber, sameBytes}
-use Rattle.bench_rows.specs.Card.{Row, row, widen, floats, valueOf, writtenBy, firstQuants, answer, card, rowAt, sameNumbers, answered}
+use Rattle.bench_rows.specs.Card.{Row, row, widen, floats, valueBits, writtenBy, firstQuants, answer, card, rowAt, sameNumbers, answered}
 use Rattle.bench_rows.specs.Rows.{meant, judged}
 use Rattle.bench_rows.specs.declared.table.Row.the-variants.{Packs, Sums, Quantizes}
 use Rattle.bench_rows.proofs.Card.{card-holds}
@@ -63,9 +63,9 @@ module _ (first a b c : ℕ) (o : Outcome) (out : List ℕ) (e : (outcomeSays o,
 
 -- ---- sums
 
-pub summed : (first bits : ℕ) (s : Said Float) → s ≡ sumSays (floats (first ∷ 0x3F800000 ∷ 0x3F800000 ∷ [])) 3 → sameNumbers (valueOf s) (bits ∷ []) ≡ judged (Sums first bits)
+pub summed : (first bits : ℕ) (s : Said Float) → s ≡ sumSays (floats (first ∷ 0x3F800000 ∷ 0x3F800000 ∷ [])) 3 → sameNumbers (valueBits s) (bits ∷ []) ≡ judged (Sums first bits)
 unfolding judged meant answered answer
-summed first bits s e = ap (λ (t : Said Float). sameNumbers (valueOf t) (bits ∷ [])) e
+summed first bits s e = ap (λ (t : Said Float). sameNumbers (valueBits t) (bits ∷ [])) e
 
 -- ---- activation blocks
 

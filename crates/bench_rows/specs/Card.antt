@@ -47,9 +47,9 @@ abbrev pub floats : List ℕ → List Float
 floats bs = map (ofBits binary32) bs
 
 -- the bits of the value that a sum answers; a refusal has none
-abbrev pub valueOf : Said Float → List ℕ
-valueOf (value v) = toBits binary32 v ∷ []
-valueOf (refused why) = []
+abbrev pub valueBits : Said Float → List ℕ
+valueBits (value v) = toBits binary32 v ∷ []
+valueBits (refused why) = []
 
 -- what stands in the output of a call that is done; a refusal writes nothing
 abbrev pub writtenBy : Said (Unit {0}) × List ℕ → List ℕ
@@ -65,7 +65,7 @@ unfoldable pub answer : Asked → List ℕ
 answer (widen hs) = map (λ h. toBits binary32 (widened h)) hs
 answer (encode bs) = map narrowed bs
 answer (packed bs) = writtenBy (quantizeSays Q40 (floats bs) (replicate 18 0))
-answer (sum bs) = valueOf (sumSays (floats bs) (length bs))
+answer (sum bs) = valueBits (sumSays (floats bs) (length bs))
 answer (becomes n) = toBits binary32 (ofInt binary32 n) ∷ []
 answer (quants bs) = firstQuants (length bs) (blockSaid (blockSays (floats bs)))
 answer (gives b) = byteOf (quantQ8 (ofBits binary32 b)) ∷ []

@@ -19,13 +19,13 @@ fn row_dot(format: FormatK, x: &[f32], w: &[u8], n: usize) -> f32
     ensures { λ r. ⌜ r ≡ rowSum (terms format (now (x .entry)) (now (w .entry))) n ⌝ }
 {
     let chunks = sums::chunks_in(n);
-    let mut parts = [0.0f32; sums::MOST_CHUNKS];
+    let mut sums = [0.0f32; sums::MOST_CHUNKS];
     let mut c: usize = 0;
     while c < chunks {
-        parts[c] = chunk_dot(format, x, w, n, c);
+        sums[c] = chunk_dot(format, x, w, n, c);
         c += 1;
     }
-    sums_tree::canonical_combine(&mut parts[..chunks])
+    sums_tree::canonical_combine(&mut sums[..chunks])
 }
 
 // The dot of the first n readings and the first n weights that w packs. Refuses 6 and 1, answers n = 0 with +0.0,

@@ -91,8 +91,9 @@ fn answer_window(st: State, size: usize, payload: &[u8], weights: &[u8], y: &mut
     requires { ⌜ (st .offset + size < 2 ^ 64) × (st .answered + st .refused + 1 < 2 ^ 64) ⌝ }
     ensures { λ r. ⌜ r ≡ saying (said.Window (windowNumber st)) (st .layer .«out_feat»)
         (oneAnswered (behind size st)) ⌝ }
-    ensures { λ _. ⌜ now (y .exit) ≡ outputsOf (st .layer) (now (weights .entry))
-        (readingsOf (readingsIn (now (payload .entry))) (st .layer)) ++ drop (st .layer .«out_feat») (now (y .entry)) ⌝ }
+    ensures { λ _. ⌜ now (y .exit)
+        ≡ outputsOf (st .layer) (now (weights .entry)) (readingsOf (readingsIn (now (payload .entry))) (st .layer))
+        ++ drop (st .layer .«out_feat») (now (y .entry)) ⌝ }
 {
     let l = st.layer;
     if let Outcome::Refused(why) = window_outputs(l, weights, records::readings_of(payload), y) {

@@ -15,7 +15,7 @@ use Rattle.fillin_lines.specs.Lines.{isLast}
 use Rattle.fillin_answer.specs.declared.state.State.{State}
 use Rattle.fillin_answer.specs.Kept.{begun}
 use Rattle.fillin_answer.specs.Answers.{answerTo}
-use Rattle.fillin_transcript.specs.Transcript.{onward, byRecords, transcript, joined, came, behind, over, byNext, byPieces}
+use Rattle.fillin_transcript.specs.Transcript.{onward, byRecords, transcript, joined, came, after, over, byNext, byPieces}
 use Rattle.fillin_transcript.proofs.RecordByRecord.{onward-same, ends}
 
 -- turns that are enough for what has come, for the pieces and for the read that gives nothing
@@ -64,7 +64,7 @@ turn-left n rest pieces st w h =
 
 -- it reads
 turn-reads : (n : ℕ) (rest : List ℕ) (pieces : List (List ℕ)) (st : State) (w : List ℕ) → length rest < sizeOf rest
-    → byPieces (suc n) rest false pieces st w ≡ byPieces n (rest ++ came pieces) (over pieces) (behind pieces) st w
+    → byPieces (suc n) rest false pieces st w ≡ byPieces n (rest ++ came pieces) (over pieces) (after pieces) st w
 unfolding byPieces
 turn-reads n rest pieces st w h = rw (next-more rest h)
 

@@ -39,10 +39,10 @@ abbrev pub came : List (List ℕ) → List ℕ
 came [] = []
 came (piece ∷ pieces) = piece
 
--- the pieces behind it
-abbrev pub behind : List (List ℕ) → List (List ℕ)
-behind [] = []
-behind (piece ∷ pieces) = pieces
+-- the pieces after it
+abbrev pub after : List (List ℕ) → List (List ℕ)
+after [] = []
+after (piece ∷ pieces) = pieces
 
 -- no piece is left
 abbrev pub over : List (List ℕ) → Bool
@@ -62,4 +62,4 @@ byPieces (suc most) rest ended pieces st w =
     (λ n.
     let a = answerTo st w (take n rest) in
     onward a (byPieces most (drop n rest) ended pieces (a .state) (a .weights)))
-    (byPieces most (rest ++ came pieces) (over pieces) (behind pieces) st w)
+    (byPieces most (rest ++ came pieces) (over pieces) (after pieces) st w)

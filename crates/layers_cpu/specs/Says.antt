@@ -33,7 +33,8 @@ scratchAfter f s w scratch =
     (filled (rowWeight f w (s .«in_feat») (s .«out_feat» - 1)) scratch (s .«in_feat»))
 
 -- every output is the dot of its rows, beside what scratch holds
-unfoldable pub cpuSays : Format → Shape → List Float → List ℕ → List Float → List Float → Said (Unit {0}) × (List Float × List Float)
+unfoldable pub cpuSays : Format → Shape → List Float → List ℕ → List Float → List Float
+    → Said (Unit {0}) × (List Float × List Float)
 cpuSays f s x w y scratch =
     carriedOut (cpuRefusal f s (length x) (length w) (length y) (length scratch))
     (outputs (λ b o. decodedDotAt f (readingRow x s b) w (s .«in_feat») o) s y, scratchAfter f s w scratch)

@@ -54,7 +54,8 @@ fn all_columns(
     scratch: &mut [f32],
     s: Shape,
 ) -> Outcome
-    requires { ⌜ cpuRefusal format s (length (now x)) (length (now w)) (length (now y)) (length (now scratch)) ≡ done ⌝ }
+    requires { ⌜ cpuRefusal format s (length (now x)) (length (now w)) (length (now y)) (length (now scratch))
+        ≡ done ⌝ }
     ensures { λ r. ⌜ (outcomeSays r, (now (y .exit), now (scratch .exit)))
         ≡ cpuSays format s (now (x .entry)) (now (w .entry)) (now (y .entry)) (now (scratch .entry)) ⌝ }
 {

@@ -43,6 +43,6 @@ sameAnswer (value v) number theirs = cond (eqb number 0) (sameBits v theirs) fal
 sameAnswer (refused why) number theirs = eqb (why .number) number
 
 -- what comes of an answer
-abbrev pub found : Bool → Finding
-found true = Same
-found false = Differs
+abbrev pub findingOf : Bool → Finding
+findingOf true = Same
+findingOf false = Differs

@@ -4,7 +4,7 @@ use refusals::Check;
 use refusals::Outcome;
 ghost use mathlib.Core.Path.{_≡_};
 ghost use Rattle.refusals.specs.Said.{saidBy, outcomeSays, checkSays};
-ghost use Rattle.replay_answers.specs.Same.{sameBits, saysNumber, sameAnswer, found};
+ghost use Rattle.replay_answers.specs.Same.{sameBits, saysNumber, sameAnswer, findingOf};
 
 pub enum Finding {
     // Our answer is the Rust's.
@@ -26,7 +26,7 @@ pub enum Finding {
 impl Finding {
     // Whether ours is theirs, as a finding.
     pub fn of_same(same: bool) -> Self
-        ensures { λ r. ⌜ r ≡ found same ⌝ }
+        ensures { λ r. ⌜ r ≡ findingOf same ⌝ }
     {
         if same {
             Finding::Same
@@ -37,14 +37,14 @@ impl Finding {
 
     // Of two floats: the same bits, or both NaN.
     pub fn of_floats(ours: f32, theirs: f32) -> Self
-        ensures { λ r. ⌜ r ≡ found (sameBits ours theirs) ⌝ }
+        ensures { λ r. ⌜ r ≡ findingOf (sameBits ours theirs) ⌝ }
     {
         Finding::of_same(same_bits(ours, theirs))
     }
 
     // Of a dot or a sum.
     pub fn of_answer(ours: Answer, number: u32, value: f32) -> Self
-        ensures { λ r. ⌜ r ≡ found (sameAnswer (saidBy ours) number value) ⌝ }
+        ensures { λ r. ⌜ r ≡ findingOf (sameAnswer (saidBy ours) number value) ⌝ }
     {
         Finding::of_same(same_answer(ours, number, value))
     }

@@ -10,10 +10,10 @@ use Rattle.dots_fused.proofs.dot.row_dot.Statement.{statement}
 use Rattle.dots_fused.proofs.dot.row_dot.Tie as tie
 
 abbrev Inv-loop : tie.InvT-loop
-Inv-loop format x w n chunks parts₀ c₀ parts c = Chunking (terms format x w) n parts₀ parts c
+Inv-loop format x w n chunks sums₀ c₀ sums c = Chunking (terms format x w) n sums₀ sums c
 
 abbrev μ-loop : tie.MeasureT-loop
-μ-loop format x w n chunks parts₀ c₀ parts c = chunksIn n - c
+μ-loop format x w n chunks sums₀ c₀ sums c = chunksIn n - c
 
 chunks-in-requires : tie.Need-chunks-in-requires Inv-loop μ-loop
 chunks-in-requires c κs = omega arith
@@ -24,11 +24,11 @@ loop-holds c = chunking-start _ _ _ refl
 chunk-dot-requires : tie.Need-chunk-dot-requires Inv-loop μ-loop
 chunk-dot-requires c κs = omega arith
 
-mul-parts : tie.Need-mul-parts Inv-loop μ-loop
-mul-parts c = omega arith
+mul-sums : tie.Need-mul-sums Inv-loop μ-loop
+mul-sums c = omega arith
 
-array-write-parts : tie.Need-array-write-parts Inv-loop μ-loop
-array-write-parts c = omega arith
+array-write-sums : tie.Need-array-write-sums Inv-loop μ-loop
+array-write-sums c = omega arith
 
 add-c : tie.Need-add-c Inv-loop μ-loop
 add-c c = omega arith
@@ -40,15 +40,15 @@ loop-again : tie.Need-loop-again Inv-loop μ-loop
 loop-again c =
     let b = c .before .before in
     let a = b .before .before .before .before .args in
-    chunking-more (terms (a .format) (a .x .now) (a .w .now)) (a .n) _ (b .loop .parts) (b .loop .c) _ refl (omega arith) (omega arith) (c .chunk-dot .ensures) (b .loop .inv)
+    chunking-more (terms (a .format) (a .x .now) (a .w .now)) (a .n) _ (b .loop .sums) (b .loop .c) _ refl (omega arith) (omega arith) (c .chunk-dot .ensures) (b .loop .inv)
 
-array-borrow-prefix-parts : tie.Need-array-borrow-prefix-parts Inv-loop μ-loop
-array-borrow-prefix-parts c = omega arith
+array-borrow-prefix-sums : tie.Need-array-borrow-prefix-sums Inv-loop μ-loop
+array-borrow-prefix-sums c = omega arith
 
 slice-aggregate-canonical-combine : tie.Need-slice-aggregate-canonical-combine Inv-loop μ-loop
 slice-aggregate-canonical-combine c =
     let b = c .before .before in
-    sym (length-take-le (b .before .chunks-in .result) (b .loop .parts) (omega arith))
+    sym (length-take-le (b .before .chunks-in .result) (b .loop .sums) (omega arith))
 
 canonical-combine-requires : tie.Need-canonical-combine-requires Inv-loop μ-loop
 canonical-combine-requires c κs = omega arith
@@ -58,7 +58,7 @@ returns c =
     let b = c .before .before .before .before in
     let a = b .before .before .before .before .args in
     let m = b .before .chunks-in in
-    chunking-met (terms (a .format) (a .x .now) (a .w .now)) (a .n) _ (b .loop .parts) _ (b .loop .c) (m .result) _ (omega arith) (m .ensures) (c .before .canonical-combine .ensures) (b .loop .inv)
+    chunking-met (terms (a .format) (a .x .now) (a .w .now)) (a .n) _ (b .loop .sums) _ (b .loop .c) (m .result) _ (omega arith) (m .ensures) (c .before .canonical-combine .ensures) (b .loop .inv)
 
 pub row-dot-spec : {M : Type 1} → statement M
 row-dot-spec =
@@ -69,12 +69,12 @@ row-dot-spec =
     chunks-in-requires
     loop-holds
     chunk-dot-requires
-    mul-parts
-    array-write-parts
+    mul-sums
+    array-write-sums
     add-c
     loop-less
     loop-again
-    array-borrow-prefix-parts
+    array-borrow-prefix-sums
     slice-aggregate-canonical-combine
     canonical-combine-requires
     returns)
