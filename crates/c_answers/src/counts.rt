@@ -1,7 +1,7 @@
 // How what run says is handed to C: its number is returned, and its two counts go through pointers.
-use stepped::Progress;
+use stepped_shape::Progress;
 ghost use mathlib.Core.Path.{_≡_};
-ghost use Rattle.stepped.specs.Says.{ran, progressSays};
+ghost use Rattle.stepped_shape.specs.Progress.{ran, progressSays};
 ghost use Rattle.c_answers.specs.Answers.{laidOut};
 
 // The number of run, whose two counts are stored where it has them.

@@ -5,7 +5,8 @@ use stepped_shape::Layer;
 ghost use mathlib.Core.Path.{_≡_};
 ghost use Rattle.stepped_shape.specs.Layer.{layerOf, memory};
 ghost use Rattle.stepped_pieces.specs.Pieces.{pieceSays};
-ghost use Rattle.stepped.specs.Says.{openSays, runSays, ran, closeSays};
+ghost use Rattle.stepped_shape.specs.Progress.{ran};
+ghost use Rattle.stepped.specs.Says.{openSays, runSays, closeSays};
 ghost use Rattle.c_answers.specs.Answers.{numbered, laidOutBeside};
 
 // `stepped::open`, for C.

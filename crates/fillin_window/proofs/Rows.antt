@@ -27,7 +27,8 @@ use Rattle.stepped_shape.proofs.Shapes.{row-within}
 use Rattle.stepped_shape.proofs.Says.{known-value, known-said}
 use Rattle.stepped_shape.proofs.Marks.{open-append}
 use Rattle.stepped_pieces.specs.Pieces.{rowMet}
-use Rattle.stepped.specs.Says.{Ran, ran, runWork, openSays, runSays, closeSays}
+use Rattle.stepped_shape.specs.Progress.{Ran, ran}
+use Rattle.stepped.specs.Says.{runWork, openSays, runSays, closeSays}
 use Rattle.stepped_history.specs.History.{inOneGo, run, close, closedBy, call, calls, opened}
 use Rattle.stepped.proofs.Counts.{run-counts}
 use Rattle.stepped_history.proofs.History.{demand3}

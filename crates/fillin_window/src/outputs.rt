@@ -1,7 +1,7 @@
 // A layer that is opened, run to its end and closed, for the readings of one window.
 use refusals::Outcome;
-use stepped::Progress;
 use stepped_shape::Layer;
+use stepped_shape::Progress;
 ghost use mathlib.Core.Path.{_≡_};
 ghost use Prim.Native.Nat.{_*_, _≤_};
 ghost use mathlib.Core.List.{_++_};

@@ -1,5 +1,7 @@
 // The calls that are replayed, by their tags. A call's tag is its place in the oracle's list of calls.
+use crate::layers::judge_layer;
 use crate::report::print_name;
+use crate::stepped_layer::judge_history;
 use replay_answers::Finding;
 use replay_calls::judge_activation_block;
 use replay_calls::judge_binary16;
@@ -7,8 +9,6 @@ use replay_calls::judge_block_decoder;
 use replay_calls::judge_block_quantizer;
 use replay_calls::judge_fixed_order_sum;
 use replay_calls::judge_row_dot;
-use replay_layers::judge_history;
-use replay_layers::judge_layer;
 
 // The tag of a record whose payload is the name of the call before it.
 const NAME: u8 = 255;

@@ -10,8 +10,10 @@
 // For each call a line says how many answers were replayed, and how many of ours differ: neither the same bits nor both
 // NaN. Where the sample cannot be read on, a last line says why, and at which byte.
 mod calls;
+mod layers;
 mod records;
 mod report;
+mod stepped_layer;
 
 use replay_answers::Finding;
 

@@ -19,7 +19,10 @@ fn judge_block(bytes: &[u8], x: &mut [f32], number: u32, theirs: Q8Block) -> Fin
     let ours = dots_activation::quantize_block_q8(x);
     let checked = ours.checked;
     let block = ours.block;
-    Finding::of_same(check_says(checked, number) && same_blocks(block, theirs))
+    if !check_says(checked, number) {
+        return Finding::Differs;
+    }
+    Finding::of_same(same_blocks(block, theirs))
 }
 
 // A payload is how many readings there are, the readings, the number that says no, 0 where there is none, and the

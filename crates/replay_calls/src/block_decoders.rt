@@ -1,8 +1,5 @@
 // The block decoders. A payload is how many places the output has and how many packed bytes there are, the bytes, the
 // number that says no, 0 where there is none, and what then stands in the output.
-use layouts::Format;
-use layouts::Format32;
-use layouts::FormatK;
 use refusals::Outcome;
 use replay_answers::Finding;
 use replay_answers::STOOD;
@@ -13,41 +10,39 @@ use replay_answers::u32_at;
 // The places of an output at most: two blocks of a K format, and one place more.
 const ROOM: usize = 513;
 
-fn dequantize_32(format: Format32, bytes: &[u8], out: &mut [f32]) -> Outcome {
-    match format {
-        Format32::Q40 => decoders::dequantize_q4_0(bytes, out),
-        Format32::Q50 => decoders::dequantize_q5_0(bytes, out),
-        Format32::Q80 => decoders::dequantize_q8_0(bytes, out),
-    }
+enum Decoder {
+    Q40,
+    Q50,
+    Q80,
+    Q4k,
+    Q6k,
 }
 
-fn dequantize_k(format: FormatK, bytes: &[u8], out: &mut [f32]) -> Outcome {
-    match format {
-        FormatK::Q4K => decoders::dequantize_q4_k(bytes, out),
-        FormatK::Q6K => decoders::dequantize_q6_k(bytes, out),
-    }
-}
-
-fn dequantize(format: Format, bytes: &[u8], out: &mut [f32]) -> Outcome {
-    match format {
-        Format::Of32(f) => dequantize_32(f, bytes, out),
-        Format::OfK(f) => dequantize_k(f, bytes, out),
+fn dequantize(decoder: Decoder, bytes: &[u8], out: &mut [f32]) -> Outcome {
+    match decoder {
+        Decoder::Q40 => decoders::dequantize_q4_0(bytes, out),
+        Decoder::Q50 => decoders::dequantize_q5_0(bytes, out),
+        Decoder::Q80 => decoders::dequantize_q8_0(bytes, out),
+        Decoder::Q4k => decoders::dequantize_q4_k(bytes, out),
+        Decoder::Q6k => decoders::dequantize_q6_k(bytes, out),
     }
 }
 
 // What ours says and leaves in its output, beside theirs.
 fn judge_output(
-    format: Format,
+    decoder: Decoder,
     bytes: &[u8],
     out: &mut [f32],
     number: u32,
     left: &[u8],
 ) -> Finding {
-    let said = dequantize(format, bytes, out);
-    Finding::of_same(says(said, number) && same_floats(left, out))
+    if !says(dequantize(decoder, bytes, out), number) {
+        return Finding::Differs;
+    }
+    Finding::of_same(same_floats(left, out))
 }
 
-fn judge_dequantize(format: Format, payload: &[u8]) -> Finding {
+fn judge_dequantize(decoder: Decoder, payload: &[u8]) -> Finding {
     let room = u32_at(payload, 0) as usize;
     let count = u32_at(payload, 4) as usize;
     if room > ROOM {
@@ -61,7 +56,7 @@ fn judge_dequantize(format: Format, payload: &[u8]) -> Finding {
     let number = u32_at(payload, end);
     let mut out = [STOOD; ROOM];
     judge_output(
-        format,
+        decoder,
         &payload[8..end],
         &mut out[..room],
         number,
@@ -72,11 +67,11 @@ fn judge_dequantize(format: Format, payload: &[u8]) -> Finding {
 // A stored answer of the call that has this tag.
 pub fn judge_block_decoder(tag: u8, payload: &[u8]) -> Finding {
     match tag {
-        2 => judge_dequantize(Format::Of32(Format32::Q40), payload),
-        3 => judge_dequantize(Format::Of32(Format32::Q50), payload),
-        4 => judge_dequantize(Format::Of32(Format32::Q80), payload),
-        5 => judge_dequantize(Format::OfK(FormatK::Q4K), payload),
-        6 => judge_dequantize(Format::OfK(FormatK::Q6K), payload),
+        2 => judge_dequantize(Decoder::Q40, payload),
+        3 => judge_dequantize(Decoder::Q50, payload),
+        4 => judge_dequantize(Decoder::Q80, payload),
+        5 => judge_dequantize(Decoder::Q4k, payload),
+        6 => judge_dequantize(Decoder::Q6k, payload),
         _ => Finding::Unknown,
     }
 }

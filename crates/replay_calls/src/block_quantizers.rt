@@ -32,8 +32,10 @@ fn judge_output(
     left: &[u8],
 ) -> Finding {
     read_floats(bytes, data);
-    let said = quantize(target, data, out);
-    Finding::of_same(says(said, number) && same_bytes(left, out))
+    if !says(quantize(target, data, out), number) {
+        return Finding::Differs;
+    }
+    Finding::of_same(same_bytes(left, out))
 }
 
 fn judge_quantize(target: Target, payload: &[u8]) -> Finding {

@@ -74,8 +74,10 @@ fn judge_rows(call: OfRows, payload: &[u8]) -> Finding {
 // beside what they left.
 fn judge_list(bytes: &[u8], list: &mut [f32], sum: f32, left: &[u8]) -> Finding {
     read_floats(bytes, list);
-    let ours = sums_tree::canonical_combine(list);
-    Finding::of_same(same_bits(ours, sum) && same_floats(left, list))
+    if !same_bits(sums_tree::canonical_combine(list), sum) {
+        return Finding::Differs;
+    }
+    Finding::of_same(same_floats(left, list))
 }
 
 // A payload is how long the list is, the list, its sum, and the list that is left.

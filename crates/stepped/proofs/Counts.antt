@@ -22,7 +22,8 @@ use Rattle.stepped_shape.proofs.Shapes.{workable}
 use Rattle.stepped_shape.proofs.Marks.{open-more, open-set-take}
 use Rattle.stepped_shape.proofs.Says.{by-known}
 use Rattle.stepped_pieces.specs.Pieces.{worked}
-use Rattle.stepped.specs.Says.{Work, work, visit, visitRow, visitRows, runWork, ran, runSays}
+use Rattle.stepped_shape.specs.Progress.{ran}
+use Rattle.stepped.specs.Says.{Work, work, visit, visitRow, visitRows, runWork, runSays}
 use Rattle.stepped.proofs.Runs.{visit-open, visit-done, visit-over}
 
 module _ (f : FormatK) (l : Layer) (w : List ℕ) (x : List Float) (budget : ℕ) (m : Memory) where

@@ -3,9 +3,9 @@ use mathlib.Core.Path.{_≡_, ap}
 use denote.Ref.{now}
 use Rattle.refusals.proofs.Once.{OneCall, both, one-filled}
 use Rattle.stepped_shape.specs.Layer.{memory}
-use Rattle.stepped.specs.declared.running.Progress.{Progress}
-use Rattle.stepped.specs.declared.running.Progress.the-variants as progress
-use Rattle.stepped.specs.Says.{Ran, ran, progressSays}
+use Rattle.stepped_shape.specs.declared.progress.Progress.{Progress}
+use Rattle.stepped_shape.specs.declared.progress.Progress.the-variants as progress
+use Rattle.stepped_shape.specs.Progress.{Ran, ran, progressSays}
 use Rattle.stepped.proofs.opening.open.Reads as opening
 use Rattle.stepped.proofs.running.run.Reads as running
 use Rattle.stepped.proofs.closing.close.Reads as closing

@@ -15,10 +15,9 @@ use Rattle.layouts.specs.Formats.{formatNamed}
 use Rattle.layouts.specs.declared.format.FormatK.{FormatK}
 use Rattle.stepped_shape.specs.declared.shape.Layer.{Layer}
 use Rattle.stepped_shape.specs.Layer.{Memory, memory, chunks, pieces, place, openOf}
+use Rattle.stepped_shape.specs.Progress.{Ran, ran}
 use Rattle.stepped_shape.specs.Refusals.{byFormat, openRefusal, workRefusal, closeRefusal}
 use Rattle.stepped_pieces.specs.Pieces.{worked, rowMet}
-use Rattle.stepped.specs.declared.running.Progress.{Progress}
-use Rattle.stepped.specs.declared.running.Progress.the-variants as progress
 
 -- ---- open clears marks to 0 and slots to +0.0
 
@@ -67,20 +66,6 @@ visitRows f l w x budget (suc n) k = visitRow f l w x budget n (chunks l) (visit
 -- all rows, with no piece done before
 unfoldable pub runWork : FormatK → Layer → List ℕ → List Float → ℕ → Memory → Work
 runWork f l w x budget m = visitRows f l w x budget (l .«out_feat») (work m 0)
-
--- what run returns: how many pieces it did and how many stay open
-pub record Ran : Type 0 where
-  pub done : ℕ
-  pub left : ℕ
-
--- so many done, and so many left
-abbrev pub ran : (done left : ℕ) → Ran
-ran done left = record { done = done; left = left }
-
--- what each answer of run says
-abbrev pub progressSays : Progress → Said Ran
-progressSays (progress.Ran done left) = value (ran done left)
-progressSays (progress.Refused why) = refused why
 
 -- `run`: done is the smaller of budget and pieces open before, and left is how many pieces are open after
 unfoldable pub runSays : Layer → List ℕ → List Float → ℕ → Memory → Said Ran × Memory

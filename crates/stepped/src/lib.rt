@@ -6,5 +6,4 @@ mod running;
 
 pub use closing::close;
 pub use opening::open;
-pub use running::Progress;
 pub use running::run;

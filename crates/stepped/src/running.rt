@@ -2,9 +2,9 @@
 use layouts::FormatK;
 use layouts::Named;
 use refusals::Check;
-use refusals::Refusal;
 use stepped_pieces::work_one;
 use stepped_shape::Layer;
+use stepped_shape::Progress;
 use stepped_shape::chunks_of;
 use stepped_shape::count_open;
 use stepped_shape::pieces_of;
@@ -13,14 +13,9 @@ use stepped_shape::work_refusal;
 ghost use mathlib.Core.Path.{_≡_};
 ghost use lib.ListN.{length};
 ghost use Rattle.stepped_shape.specs.Layer.{memory};
+ghost use Rattle.stepped_shape.specs.Progress.{progressSays};
 ghost use Rattle.stepped_shape.specs.Inner.{LayerReady, PieceRoom};
-ghost use Rattle.stepped.specs.Says.{work, runWork, progressSays, runSays};
-
-// What run answers: how many pieces it did and how many stay open, or why it says no.
-pub enum Progress {
-    Ran { done: usize, left: usize },
-    Refused(Refusal),
-}
+ghost use Rattle.stepped.specs.Says.{work, runWork, runSays};
 
 // Works the next open pieces in row order, chunks rising, at most `budget`. Returns how many were worked.
 fn work_open(

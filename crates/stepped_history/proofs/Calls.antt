@@ -10,8 +10,8 @@ use Rattle.refusals.specs.Said.{Said, outcomeSays}
 use Rattle.stepped_shape.specs.declared.shape.Layer.{Layer}
 use Rattle.stepped_shape.specs.Layer.{Memory, memory}
 use Rattle.stepped_pieces.proofs.piece.Reads as piecing
-use Rattle.stepped.specs.declared.running.Progress.{Progress}
-use Rattle.stepped.specs.Says.{Ran, progressSays}
+use Rattle.stepped_shape.specs.declared.progress.Progress.{Progress}
+use Rattle.stepped_shape.specs.Progress.{Ran, progressSays}
 use Rattle.stepped_history.specs.History.{piece, run, close, HistoryState, acceptedBy, acceptedByRun, closedBy, call, opened}
 use Rattle.stepped.proofs.open.Reads as opening
 use Rattle.stepped.proofs.run.Reads as running

@@ -31,7 +31,8 @@ use Rattle.stepped_shape.proofs.Shapes.{place-within, row-within, openable, pie
 use Rattle.stepped_shape.proofs.Marks.{open-append, open-set-take, none-open}
 use Rattle.stepped_shape.proofs.Says.{known-value, known-refused, known-said}
 use Rattle.stepped_pieces.specs.Pieces.{sumAt, worked, rowMet, pieceSays}
-use Rattle.stepped.specs.Says.{noSum, noMark, Work, work, visit, visitRow, visitRows, runWork, ran, openSays, runSays, closeSays}
+use Rattle.stepped_shape.specs.Progress.{ran}
+use Rattle.stepped.specs.Says.{noSum, noMark, Work, work, visit, visitRow, visitRows, runWork, openSays, runSays, closeSays}
 use Rattle.stepped_history.specs.History.{decodedRow, inOneGo, Call, piece, run, close, HistoryState, call, calls, opened, Demand3}
 use Rattle.stepped.proofs.Runs.{visit-open, visit-done, visit-over}
 use Rattle.stepped.proofs.Counts.{run-counts}

@@ -17,7 +17,8 @@ use Rattle.layers_shape.specs.Shapes.{weightRow}
 use Rattle.stepped_shape.specs.declared.shape.Layer.{Layer}
 use Rattle.stepped_shape.specs.Layer.{Memory, pieces, openOf}
 use Rattle.stepped_pieces.specs.Pieces.{pieceSays}
-use Rattle.stepped.specs.Says.{Ran, openSays, runSays, closeSays}
+use Rattle.stepped_shape.specs.Progress.{Ran}
+use Rattle.stepped.specs.Says.{openSays, runSays, closeSays}
 
 -- ---- the row in one go
 

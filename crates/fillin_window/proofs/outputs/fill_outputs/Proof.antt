@@ -8,7 +8,7 @@ use lib.ListN.{length}
 use lib.Ieee.{Float}
 use Rattle.refusals.specs.Said.{Said, done, outcomeSays}
 use Rattle.stepped_shape.specs.Layer.{Memory, memory}
-use Rattle.stepped.specs.Says.{progressSays}
+use Rattle.stepped_shape.specs.Progress.{progressSays}
 use Rattle.refusals.proofs.Laws.{never-refused}
 use Rattle.fillin_window.proofs.Rows.{open-done, Worked, worked}
 use Rattle.fillin_window.proofs.outputs.fill_outputs.Statement.{statement}

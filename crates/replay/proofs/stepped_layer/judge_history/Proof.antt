@@ -2,8 +2,8 @@
 use lib.ListN.{length-take}
 use native.Mathlib.Omega.{arith}
 use borrow.Author.Needs.{needs}
-use Rattle.replay_layers.proofs.stepped_layer.judge_history.Statement.{statement}
-use Rattle.replay_layers.proofs.stepped_layer.judge_history.Tie as tie
+use Rattle.replay.proofs.stepped_layer.judge_history.Statement.{statement}
+use Rattle.replay.proofs.stepped_layer.judge_history.Tie as tie
 
 byte-at-requires : tie.Need-byte-at-requires
 byte-at-requires c κs = search needs

@@ -9,8 +9,8 @@ use replay_answers::read_floats;
 use replay_answers::same_floats;
 use replay_answers::says;
 use replay_answers::u32_at;
-use stepped::Progress;
 use stepped_shape::Layer;
+use stepped_shape::Progress;
 
 // The readings at most: a block more than a chunk has.
 const MOST: usize = 8_448;

@@ -3,8 +3,8 @@ use mathlib.Core.Path.{_≡_, refl}
 use Prim.Native.Nat.{_-_}
 use lib.ListN.{length}
 use native.Mathlib.Omega.{arith}
-use Rattle.replay_layers.proofs.stepped_layer.rows_close.Statement.{statement}
-use Rattle.replay_layers.proofs.stepped_layer.rows_close.Tie as tie
+use Rattle.replay.proofs.stepped_layer.rows_close.Statement.{statement}
+use Rattle.replay.proofs.stepped_layer.rows_close.Tie as tie
 
 abbrev Inv-loop : tie.InvT-loop
 Inv-loop l slots marks y₀ row₀ y row = length y ≡ length y₀

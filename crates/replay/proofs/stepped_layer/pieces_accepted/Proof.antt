@@ -3,8 +3,8 @@ use mathlib.Core.Path.{_≡_, refl}
 use Prim.Native.Nat.{_-_}
 use lib.ListN.{length}
 use native.Mathlib.Omega.{arith}
-use Rattle.replay_layers.proofs.stepped_layer.pieces_accepted.Statement.{statement}
-use Rattle.replay_layers.proofs.stepped_layer.pieces_accepted.Tie as tie
+use Rattle.replay.proofs.stepped_layer.pieces_accepted.Statement.{statement}
+use Rattle.replay.proofs.stepped_layer.pieces_accepted.Tie as tie
 
 abbrev Inv-loop : tie.InvT-loop
 Inv-loop l w x named slots₀ marks₀ count k₀ slots marks k = (length slots ≡ length slots₀) × (length marks ≡ length marks₀)

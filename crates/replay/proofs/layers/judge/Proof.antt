@@ -2,8 +2,8 @@
 use lib.ListN.{length-take}
 use native.Mathlib.Omega.{arith}
 use borrow.Author.Needs.{needs}
-use Rattle.replay_layers.proofs.judge.Statement.{statement}
-use Rattle.replay_layers.proofs.judge.Tie as tie
+use Rattle.replay.proofs.layers.judge.Statement.{statement}
+use Rattle.replay.proofs.layers.judge.Tie as tie
 
 u32-at-requires : tie.Need-u32-at-requires
 u32-at-requires c κs = search needs

@@ -1,8 +1,6 @@
 // The stored answers of the layers, judged. A payload is batch, in_feat and out_feat, how many readings, packed bytes,
 // places of output and of scratch there are, the readings, the bytes, the number that says no, 0 where there is none,
 // and what then stands in the output and in scratch.
-mod stepped_layer;
-
 use layers_shape::Shape;
 use refusals::Outcome;
 use replay_answers::Finding;
@@ -11,12 +9,10 @@ use replay_answers::read_floats;
 use replay_answers::same_floats;
 use replay_answers::says;
 use replay_answers::u32_at;
-pub use stepped_layer::judge_history;
 
 // The floats of a slice at most: those of a row of one block more than a chunk has.
 const MOST: usize = 8_448;
 
-// The layers without scratch.
 enum Layer {
     Q4kFused,
     Q6kFused,
@@ -24,21 +20,20 @@ enum Layer {
     Q6kInteger,
     Q4kIntegerRs,
     Q6kIntegerRs,
+    Q4kCpu,
+    Q6kCpu,
+    Q40Cpu,
 }
 
-// The `_cpu` layers.
-enum CpuLayer {
-    Q4k,
-    Q6k,
-    Q40,
-}
-
-enum Call {
-    Plain(Layer),
-    Cpu(CpuLayer),
-}
-
-fn plain(layer: Layer, x: &[f32], w: &[u8], y: &mut [f32], s: Shape) -> Outcome {
+// The `_cpu` layers alone use scratch.
+fn outcome(
+    layer: Layer,
+    x: &[f32],
+    w: &[u8],
+    y: &mut [f32],
+    scratch: &mut [f32],
+    s: Shape,
+) -> Outcome {
     let batch = s.batch;
     let n = s.in_feat;
     let outs = s.out_feat;
@@ -49,44 +44,15 @@ fn plain(layer: Layer, x: &[f32], w: &[u8], y: &mut [f32], s: Shape) -> Outcome 
         Layer::Q6kInteger => layers_integer::linear_q6_k_integer(x, w, y, batch, n, outs),
         Layer::Q4kIntegerRs => layers_integer::linear_q4_k_integer_rs(x, w, y, batch, n, outs),
         Layer::Q6kIntegerRs => layers_integer::linear_q6_k_integer_rs(x, w, y, batch, n, outs),
-    }
-}
-
-fn cpu(
-    layer: CpuLayer,
-    x: &[f32],
-    w: &[u8],
-    y: &mut [f32],
-    scratch: &mut [f32],
-    s: Shape,
-) -> Outcome {
-    let batch = s.batch;
-    let n = s.in_feat;
-    let outs = s.out_feat;
-    match layer {
-        CpuLayer::Q4k => layers_cpu::linear_q4_k_cpu(x, w, y, scratch, batch, n, outs),
-        CpuLayer::Q6k => layers_cpu::linear_q6_k_cpu(x, w, y, scratch, batch, n, outs),
-        CpuLayer::Q40 => layers_cpu::linear_q4_0_cpu(x, w, y, scratch, batch, n, outs),
-    }
-}
-
-fn outcome(
-    call: Call,
-    x: &[f32],
-    w: &[u8],
-    y: &mut [f32],
-    scratch: &mut [f32],
-    s: Shape,
-) -> Outcome {
-    match call {
-        Call::Plain(layer) => plain(layer, x, w, y, s),
-        Call::Cpu(layer) => cpu(layer, x, w, y, scratch, s),
+        Layer::Q4kCpu => layers_cpu::linear_q4_k_cpu(x, w, y, scratch, batch, n, outs),
+        Layer::Q6kCpu => layers_cpu::linear_q6_k_cpu(x, w, y, scratch, batch, n, outs),
+        Layer::Q40Cpu => layers_cpu::linear_q4_0_cpu(x, w, y, scratch, batch, n, outs),
     }
 }
 
 // What ours says of readings whose bits stand in these bytes, read into x, and leaves in its memory, beside theirs.
 fn judge_memory(
-    call: Call,
+    layer: Layer,
     bytes: &[u8],
     x: &mut [f32],
     w: &[u8],
@@ -98,10 +64,13 @@ fn judge_memory(
     scratch_left: &[u8],
 ) -> Finding {
     read_floats(bytes, x);
-    let said = outcome(call, x, w, y, scratch, s);
-    Finding::of_same(
-        says(said, number) && same_floats(y_left, y) && same_floats(scratch_left, scratch),
-    )
+    if !says(outcome(layer, x, w, y, scratch, s), number) {
+        return Finding::Differs;
+    }
+    if !same_floats(y_left, y) {
+        return Finding::Differs;
+    }
+    Finding::of_same(same_floats(scratch_left, scratch))
 }
 
 fn shape_of(payload: &[u8]) -> Shape {
@@ -112,7 +81,7 @@ fn shape_of(payload: &[u8]) -> Shape {
     }
 }
 
-fn judge(call: Call, payload: &[u8]) -> Finding {
+fn judge(layer: Layer, payload: &[u8]) -> Finding {
     let x_len = u32_at(payload, 12) as usize;
     let w_len = u32_at(payload, 16) as usize;
     let y_len = u32_at(payload, 20) as usize;
@@ -137,7 +106,7 @@ fn judge(call: Call, payload: &[u8]) -> Finding {
     let mut y = [STOOD; MOST];
     let mut scratch = [STOOD; MOST];
     judge_memory(
-        call,
+        layer,
         &payload[28..w_at],
         &mut x[..x_len],
         &payload[w_at..end],
@@ -153,15 +122,15 @@ fn judge(call: Call, payload: &[u8]) -> Finding {
 // A stored answer of the layer that has this tag.
 pub fn judge_layer(tag: u8, payload: &[u8]) -> Finding {
     match tag {
-        19 => judge(Call::Plain(Layer::Q4kFused), payload),
-        20 => judge(Call::Plain(Layer::Q6kFused), payload),
-        21 => judge(Call::Plain(Layer::Q4kInteger), payload),
-        22 => judge(Call::Plain(Layer::Q6kInteger), payload),
-        23 => judge(Call::Plain(Layer::Q4kIntegerRs), payload),
-        24 => judge(Call::Plain(Layer::Q6kIntegerRs), payload),
-        25 => judge(Call::Cpu(CpuLayer::Q4k), payload),
-        26 => judge(Call::Cpu(CpuLayer::Q6k), payload),
-        27 => judge(Call::Cpu(CpuLayer::Q40), payload),
+        19 => judge(Layer::Q4kFused, payload),
+        20 => judge(Layer::Q6kFused, payload),
+        21 => judge(Layer::Q4kInteger, payload),
+        22 => judge(Layer::Q6kInteger, payload),
+        23 => judge(Layer::Q4kIntegerRs, payload),
+        24 => judge(Layer::Q6kIntegerRs, payload),
+        25 => judge(Layer::Q4kCpu, payload),
+        26 => judge(Layer::Q6kCpu, payload),
+        27 => judge(Layer::Q40Cpu, payload),
         _ => Finding::Unknown,
     }
 }
