@@ -1,4 +1,4 @@
--- A layer that is opened, run to its end and closed row by row: each output is its row's dot in one go. Assumes nothing.
+-- A layer that is opened, whose first piece is worked, that is run to its end and closed row by row: each output is its row's dot in one go. Assumes nothing.
 use Prim.{Unit}
 use Prim.Native.Nat.{ℕ, _+_, _-_, _*_, _≤_, _<_, min}
 use mathlib.Core.Path.{_≡_, refl, sym, ap, subst, _∙_}
@@ -26,10 +26,10 @@ use Rattle.stepped_shape.specs.Refusals.{shapeRefusal, roomRefusal, openRefusal
 use Rattle.stepped_shape.proofs.Shapes.{row-within}
 use Rattle.stepped_shape.proofs.Says.{known-value, known-said}
 use Rattle.stepped_shape.proofs.Marks.{open-append}
-use Rattle.stepped_pieces.specs.Pieces.{rowMet}
+use Rattle.stepped_pieces.specs.Pieces.{rowMet, pieceSays}
 use Rattle.stepped_shape.specs.Progress.{Ran, ran}
 use Rattle.stepped.specs.Says.{runWork, openSays, runSays, closeSays}
-use Rattle.stepped_history.specs.History.{inOneGo, run, close, closedBy, call, calls, opened}
+use Rattle.stepped_history.specs.History.{inOneGo, piece, run, close, closedBy, call, calls, opened}
 use Rattle.stepped.proofs.Counts.{run-counts}
 use Rattle.stepped_history.proofs.History.{demand3}
 use Rattle.fillin_window.specs.Windows.{Sound, outputsOf}
@@ -94,9 +94,10 @@ module _ (l : Layer) (weights : ℕ) (s : Sound l weights) where
       ∙ given-no _ _ _ (le-ltb _ _ (le-refl (l .«in_feat»)))
       ∙ roomy
 
--- ---- opened, then run with a budget for every piece
+-- ---- opened, then the first piece, then a run with a budget for every piece
 
--- what open said and left, and then run: neither refused, every piece is done, and each row meets in its dot in one go
+-- what open said and left, and what run did behind the first piece: neither refused, every piece is done, and each row
+-- meets in its dot in one go
 pub record Worked (l : Layer) (w : List ℕ) (x : List Float) (o : Said (Unit {0}) × Memory) (r : Said Ran × Memory) : Type 0 where
   pub opened-done : o .0 ≡ done
   pub not-refused : (why : Refusal) → r .0 ≡ refused why → ⊥
@@ -112,26 +113,29 @@ module _ (l : Layer) (w : List ℕ) (x : List Float) (s : Sound l (length w)) (l
   unfolding openSays
   open-done = known-said _ _ _ (s .named) ∙ rw (room .0, room .1) (opens l (length w) s)
 
-  -- what open and run leave
+  -- what open, piece and run leave
   abbrev after-open : Memory
   after-open = openSays l m .1
 
-  abbrev after-run : Memory
-  after-run = runSays l w x 16 after-open .1
+  abbrev after-piece : Memory
+  after-piece = pieceSays l w x 0 0 after-open .1
 
-  module _ (kept : Sixteen after-open) where
+  abbrev after-run : Memory
+  after-run = runSays l w x 16 after-piece .1
+
+  module _ (kept : Sixteen after-piece) where
     -- run does not refuse: what it says and leaves
-    runs : runSays l w x 16 after-open ≡ (value (ran (min 16 (openOf l (after-open .marks))) (openOf l (runWork (s .known) l w x 16 after-open .holds .marks))), runWork (s .known) l w x 16 after-open .holds)
+    runs : runSays l w x 16 after-piece ≡ (value (ran (min 16 (openOf l (after-piece .marks))) (openOf l (runWork (s .known) l w x 16 after-piece .holds .marks))), runWork (s .known) l w x 16 after-piece .holds)
     unfolding runSays
     runs = known-value _ _ _ (s .named) _ (else-later _ _ (rw (long, kept .0, kept .1) (works l (length w) s)))
 
-    -- every piece is open before the run, and none is after it
+    -- no more pieces than there are are open before the run, and none is after it
     none-open : openOf l (after-run .marks) ≡ 0
-    unfolding calls opened
+    unfolding calls call opened
     none-open =
-        let before = demand3 (s .known) l w x (s .named) m [] open-done [] .counted in
+        let before = demand3 (s .known) l w x (s .named) m [] open-done (piece 0 0 ∷ []) .counted in
         let pieces-few = few l (length w) s in
-        let r = run-counts (s .known) l w x 16 after-open (rw (kept .1) pieces-few) in
+        let r = run-counts (s .known) l w x 16 after-piece (rw (kept .1) pieces-few) in
         let all = r .did ∙ min-eq-right (omega arith) in
         ap (λ (p : Said Ran × Memory). openOf l (p .1 .marks)) runs ∙ omega (arith, r .left, all)
 
@@ -150,29 +154,26 @@ module _ (l : Layer) (w : List ℕ) (x : List Float) (s : Sound l (length w)) (l
           let closed : List·Memᴰ row (closedBy (closeSays l row after-run y .0) row []) = rw told (List·Memᴰ·head refl) in
           sym (getD-set-same y row met nan (rw length-table h))
           ∙ ap (λ (p : Said (Unit {0}) × List Float). getD (p .1) row nan) (sym e)
-          ∙ demand3 (s .known) l w x (s .named) m y open-done (run 16 ∷ close row ∷ []) .rows row closed
+          ∙ demand3 (s .known) l w x (s .named) m y open-done (piece 0 0 ∷ run 16 ∷ close row ∷ []) .rows row closed
 
       met : (y : List Float) → filled (rowMet l (after-run .slots)) y (l .«out_feat») ≡ outputsOf l w x ++ drop (l .«out_feat») y
       met y = rw (s .named) (ap (λ (ys : List Float). ys ++ drop (l .«out_feat») y) (table-ext _ _ (l .«out_feat») row-met))
 
-  -- both calls keep the lengths of what they are lent
-  abbrev Worked-as-long : Said (Unit {0}) × Memory → Said Ran × Memory → Type 0
-  Worked-as-long o r = Sixteen (o .1) → Sixteen (r .1) → Worked l w x o r
+  -- each call keeps the lengths of what it is lent
+  abbrev Worked-as-long : Said (Unit {0}) × Memory → Memory → Said Ran × Memory → Type 0
+  Worked-as-long o p r = Sixteen p → Sixteen (r .1) → Worked l w x o r
 
-  pub worked : (o : Said (Unit {0}) × Memory) → o ≡ openSays l m → (r : Said Ran × Memory) → r ≡ runSays l w x 16 (o .1) → Worked-as-long o r
-  worked o e r e' =
-      subst
-      (λ (q : Said (Unit {0}) × Memory). (t : Said Ran × Memory) → t ≡ runSays l w x 16 (q .1) → Worked-as-long q t)
-      (sym e)
-      (λ t k. subst (Worked-as-long (openSays l m)) (sym k) itself)
-      r
-      e'
+  pub worked : (o p : Said (Unit {0}) × Memory) → o ≡ openSays l m → p ≡ pieceSays l w x 0 0 (o .1) → (r : Said Ran × Memory) → r ≡ runSays l w x 16 (p .1) → Worked-as-long o (p .1) r
+  worked o p e e' r e'' =
+      let piece-left : p ≡ pieceSays l w x 0 0 after-open = e' ∙ ap (λ (q : Said (Unit {0}) × Memory). pieceSays l w x 0 0 (q .1)) e in
+      let run-left : r ≡ runSays l w x 16 after-piece = e'' ∙ ap (λ (q : Said (Unit {0}) × Memory). runSays l w x 16 (q .1)) piece-left in
+      rw (e, piece-left, run-left) itself
     where
-      itself : Worked-as-long (openSays l m) (runSays l w x 16 after-open)
+      itself : Worked-as-long (openSays l m) after-piece (runSays l w x 16 after-piece)
       itself a b =
           record {
             opened-done = open-done;
-            not-refused = λ why z. apart why _ (sym z ∙ ap (λ (p : Said Ran × Memory). p .0) (runs a));
+            not-refused = λ why z. apart why _ (sym z ∙ ap (λ (q : Said Ran × Memory). q .0) (runs a));
             runs-out = run-out a b;
             dots = met a b;
           }

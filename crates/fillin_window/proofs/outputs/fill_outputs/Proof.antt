@@ -31,15 +31,21 @@ enum-told-2 c = search needs
 
 -- after the run every piece is done, and each row meets in its dot
 module _ (c : tie.After-run) where
-  abbrev start : tie.Start
-  start = c .before .before .before .before .before .before .before .before .before .before .before .before .before
+  abbrev pieced : tie.After-piece
+  pieced = c .before .before .before .before .before
 
-  lengths : (length (c .before .before .before .before .before .before .before .«open» .last .1 .0) ≡ 16) × (length (c .before .before .before .before .before .before .before .«open» .last .1 .1 .0) ≡ 16) × (length (c .run .last .1 .1 .1 .1 .0) ≡ 16) × (length (c .run .last .1 .1 .1 .1 .1 .0) ≡ 16)
+  abbrev opened : tie.After-open
+  opened = pieced .before .before .before .before .before .before .before
+
+  abbrev start : tie.Start
+  start = opened .before .before .before .before .before .before
+
+  lengths : (length (pieced .piece .last .1 .1 .1 .1 .1 .0) ≡ 16) × (length (pieced .piece .last .1 .1 .1 .1 .1 .1 .0) ≡ 16) × (length (c .run .last .1 .1 .1 .1 .0) ≡ 16) × (length (c .run .last .1 .1 .1 .1 .1 .0) ≡ 16)
   lengths = search needs
 
-  facts : Worked (start .args .l) (start .args .w .now) (start .args .x .now) (outcomeSays (c .before .before .before .before .before .before .before .«open» .result), memory (c .before .before .before .before .before .before .before .«open» .last .1 .0) (c .before .before .before .before .before .before .before .«open» .last .1 .1 .0)) (progressSays (c .run .result), memory (c .run .last .1 .1 .1 .1 .0) (c .run .last .1 .1 .1 .1 .1 .0))
+  facts : Worked (start .args .l) (start .args .w .now) (start .args .x .now) (outcomeSays (opened .«open» .result), memory (opened .«open» .last .1 .0) (opened .«open» .last .1 .1 .0)) (progressSays (c .run .result), memory (c .run .last .1 .1 .1 .1 .0) (c .run .last .1 .1 .1 .1 .1 .0))
   facts =
-      worked (start .args .l) (start .args .w .now) (start .args .x .now) (start .pre .0) (start .pre .1) _ (refl, refl) _ (c .before .before .before .before .before .before .before .«open» .ensures) _ (c .run .ensures) (lengths .0, lengths .1) (lengths .2, lengths .3)
+      worked (start .args .l) (start .args .w .now) (start .args .x .now) (start .pre .0) (start .pre .1) _ (refl, refl) _ _ (opened .«open» .ensures) (pieced .piece .ensures) _ (c .run .ensures) (lengths .0, lengths .1) (lengths .2, lengths .3)
 
 -- open does not refuse
 opens : (c : tie.After-open) → outcomeSays (c .«open» .result) ≡ done
@@ -49,6 +55,15 @@ opens c =
 
 returns : tie.Need-returns
 returns c = absurd (never-refused _ _ (opens (c .before .before .before .before)) (c .enum-told2 .given .1))
+
+slice-aggregate-piece : tie.Need-slice-aggregate-piece
+slice-aggregate-piece c = search needs
+
+slice-aggregate-piece-2 : tie.Need-slice-aggregate-piece-2
+slice-aggregate-piece-2 c = search needs
+
+piece-requires : tie.Need-piece-requires
+piece-requires c κs = search needs
 
 slice-aggregate-run : tie.Need-slice-aggregate-run
 slice-aggregate-run c = search needs
@@ -75,7 +90,7 @@ slice-aggregate-close-rows-2 : tie.Need-slice-aggregate-close-rows-2
 slice-aggregate-close-rows-2 c = search needs
 
 close-rows-requires : tie.Need-close-rows-requires
-close-rows-requires c κs = let f = facts (c .before .before .before .before .before .before .before) in (f .runs-out, c .before .before .before .before .before .before .before .before .before .before .before .before .before .before .before .before .before .before .before .before .pre .2)
+close-rows-requires c κs = let f = facts (c .before .before .before .before .before .before .before) in (f .runs-out, c .before .before .before .before .before .before .before .before .before .before .before .before .before .before .before .before .before .before .before .before .before .before .before .before .before .pre .2)
 
 same-length : tie.Need-same-length
 same-length c = search needs
@@ -86,5 +101,5 @@ returns-3 c = let f = facts (c .before .before .before .before .before .before .
 pub fill-outputs-spec : {M : Type 1} → statement M
 fill-outputs-spec =
     tie.close
-    (tie.spec slice-aggregate-open slice-aggregate-open-2 open-requires enum-told enum-told-2 returns slice-aggregate-run slice-aggregate-run-2 run-requires enum-known-ran returns-2 enum-told-3 slice-aggregate-close-rows
+    (tie.spec slice-aggregate-open slice-aggregate-open-2 open-requires enum-told enum-told-2 returns slice-aggregate-piece slice-aggregate-piece-2 piece-requires slice-aggregate-run slice-aggregate-run-2 run-requires enum-known-ran returns-2 enum-told-3 slice-aggregate-close-rows
     slice-aggregate-close-rows-2 close-rows-requires same-length returns-3)
