@@ -6,6 +6,7 @@ mod block_quantizers;
 mod calls;
 mod fixed_order_sums;
 mod fused_dots;
+mod goals;
 mod growth;
 mod linear_layers;
 mod measure;

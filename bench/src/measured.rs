@@ -1,4 +1,5 @@
 //! What was measured of a row, and the line of a file that keeps it.
+use crate::goals::goal_of;
 use crate::measure::{measure, Beside, Row, Size};
 
 pub struct Measured {
@@ -66,6 +67,16 @@ impl Measured {
     /// Whether the bar is held, where there is one.
     pub fn held(&self) -> Option<bool> {
         Some(self.ratio()? <= self.bar?)
+    }
+
+    /// The goal, where there is a bar.
+    pub fn goal(&self) -> Option<f64> {
+        self.bar.and_then(|_| goal_of(&self.call))
+    }
+
+    /// Whether the goal is reached, where there is one.
+    pub fn reached(&self) -> Option<bool> {
+        Some(self.ratio()? <= self.goal()?)
     }
 
     pub fn size_word(&self) -> &'static str {

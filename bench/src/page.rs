@@ -88,12 +88,12 @@ pub fn text(rows: &[Pair], [processor, day, compiler]: [&str; 3]) -> String {
 
 fn table(rows: &[&Pair]) -> String {
     let head = "\
-| call | input | size | ours, ns | ns a value | the Rust, ns | its vector, ns | ours / Rust | bar | the Rust for this processor, ns | ours / that |
-|---|---|---|---:|---:|---:|---:|---:|---:|---:|---:|";
+| call | input | size | ours, ns | ns a value | the Rust, ns | its vector, ns | ours / Rust | bar | goal | the Rust for this processor, ns | ours / that |
+|---|---|---|---:|---:|---:|---:|---:|---:|---:|---:|---:|";
     let rows = rows.iter().map(|Pair { plain, native }| {
         let time = |time: Option<f64>| time.map_or(String::new(), nanoseconds);
         format!(
-            "| `{}` | {} | {} | {} | {:.3} | {} | {} | {} | {} | {} | {} |",
+            "| `{}` | {} | {} | {} | {:.3} | {} | {} | {} | {} | {} | {} | {} |",
             plain.call,
             plain.input,
             plain.size_word(),
@@ -103,6 +103,7 @@ fn table(rows: &[&Pair]) -> String {
             time(plain.vector),
             two_places(plain.ratio()),
             bar(plain),
+            goal(plain),
             time(native.theirs),
             two_places(native.ratio()),
         )
@@ -136,6 +137,16 @@ fn bar(row: &Measured) -> String {
         ""
     };
     two_places(row.bar) + missed
+}
+
+/// A goal, and words where it is not reached.
+fn goal(row: &Measured) -> String {
+    let missed = if row.reached() == Some(false) {
+        " not reached"
+    } else {
+        ""
+    };
+    two_places(row.goal()) + missed
 }
 
 fn lines(head: &str, rows: impl Iterator<Item = String>) -> String {

@@ -5,7 +5,7 @@ use crate::measured::Measured;
 /// How the numbers of a row are to be read.
 pub const WORDS: &str = "\
 Nanoseconds of one call, and ours over the other's: below 1.00 ours is faster. A bar is the
-most that this may be. Neither side is inlined where it is measured: ours is called through C,
+most that this may be, and a goal, which lies below it, what the call is to keep. Neither side is inlined where it is measured: ours is called through C,
 and the Rust through a pointer, so that each pays for one call. The Rust's block decoders put
 their values into a new vector, which is part of their time and cannot be taken out of them, as
 its block quantizers do with their bytes, its row dots with the sums of their chunks or blocks,
@@ -20,7 +20,7 @@ pub fn head() -> String {
     let rounds =
         format!("The median of {ROUNDS} rounds, in which both sides take turns, in one process.");
     let columns = format!(
-        "{:<23} {:<30} {:>9} {:>9} {:>9} {:>9}  bar",
+        "{:<23} {:<30} {:>9} {:>9} {:>9} {:>9}  bar         goal",
         "call", "input", "ours", "other", "vector", "ratio"
     );
     format!("{WORDS}\n{rounds}\n\n{columns}")
@@ -33,8 +33,13 @@ pub fn line(measured: &Measured) -> String {
         Some(false) => "MISSED",
         None => "",
     };
+    let goal = match measured.reached() {
+        Some(true) => "reached",
+        Some(false) => "NOT REACHED",
+        None => "",
+    };
     let line = format!(
-        "{:<23} {:<30} {:>9} {:>9} {:>9} {:>9}  {:<4} {bar}",
+        "{:<23} {:<30} {:>9} {:>9} {:>9} {:>9}  {:<4} {bar:<6} {:<4} {goal}",
         measured.call,
         measured.input,
         nanoseconds(measured.ours),
@@ -42,6 +47,7 @@ pub fn line(measured: &Measured) -> String {
         time(measured.vector),
         two_places(measured.ratio()),
         two_places(measured.bar),
+        two_places(measured.goal()),
     );
     line.trim_end().into()
 }
