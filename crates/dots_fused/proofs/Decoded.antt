@@ -22,7 +22,7 @@ use Rattle.sums_lanes.specs.Lanes.{products}
 use Rattle.sums.specs.Rows.{rowSum}
 use Rattle.sums.specs.Says.{dotSays}
 use Rattle.sums.proofs.RowLaws.{row-cong}
-use Rattle.dots_fused_chunk.specs.Terms.{terms}
+use Rattle.dots_fused_block.specs.Terms.{terms}
 use Rattle.dots_fused.specs.Says.{fusedSays}
 
 -- a decoder that refuses nothing was handed whole blocks

@@ -14,7 +14,7 @@ use Rattle.layouts.specs.Weights.{valuesOf}
 use Rattle.layouts.specs.declared.format.FormatK.{FormatK}
 use Rattle.layouts.specs.declared.format.Format.the-variants.{OfK}
 use Rattle.sums.specs.Rows.{rowSum}
-use Rattle.dots_fused_chunk.specs.Terms.{terms}
+use Rattle.dots_fused_block.specs.Terms.{terms}
 
 -- `canonical_dot_q4k_fused`, `q6k_fused_f32_dot`: over a size; packed bytes that are not whole blocks, also at n = 0; n
 -- = 0 answers +0.0; fewer weights than needed; fewer readings; and otherwise the row's sum

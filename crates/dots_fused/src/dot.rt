@@ -10,7 +10,7 @@ ghost use Rattle.refusals.specs.Said.{saidBy};
 ghost use Rattle.refusals.specs.Sizes.{mostIn};
 ghost use Rattle.layouts.specs.Weights.{valuesOf};
 ghost use Rattle.sums.specs.Rows.{rowSum};
-ghost use Rattle.dots_fused_chunk.specs.Terms.{terms};
+ghost use Rattle.dots_fused_block.specs.Terms.{terms};
 ghost use Rattle.dots_fused.specs.Says.{fusedSays};
 
 // The dot of the first n places.

@@ -1,5 +1,3 @@
 -- Laws of a row's terms by block and by chunk, and one answer.
 pub mod Rows
-pub mod Grown
-pub mod SignedBytes
 pub mod Unique

@@ -1,7 +1,7 @@
 -- A row's terms, read in its blocks and in its chunks, and where these lie in the row's bytes. Assumes nothing.
 use mathlib.Core.Path.{_≡_, sym, ap, _∙_}
-use Prim.Native.Nat.{ℕ, _+_, _-_, _*_, _/_, _%_, _≤_, _<_}
-use native.Mathlib.Nat.{le-refl, one-mul, zero-mul, le-of-eq, le-div-iff-mul-le, mul-add-div-right}
+use Prim.Native.Nat.{ℕ, _+_, _-_, _*_, _/_, _≤_, _<_}
+use native.Mathlib.Nat.{le-refl, one-mul, le-div-iff-mul-le, mul-add-div-right}
 use native.Mathlib.Omega.{arith}
 use mathlib.Core.List.{List}
 use lib.ListN.{length, take, drop, length-drop}
@@ -11,23 +11,14 @@ use Rattle.memory.specs.Lists.{part}
 use Rattle.memory.proofs.Filled.{part-at}
 use Rattle.memory.proofs.Parts.{within-whole}
 use Rattle.layouts.specs.Formats.{bytesK}
-use Rattle.layouts.specs.K.{valueK}
 use Rattle.layouts.specs.Weights.{weightAt, valuesOf}
 use Rattle.layouts.specs.declared.format.FormatK.{FormatK}
 use Rattle.layouts.specs.declared.format.Format.the-variants.{OfK}
 use Rattle.layouts.proofs.Rows.{weight-skip, weight-front}
 use Rattle.layouts.proofs.Sizes.{sizes}
-use Rattle.dots_fused_chunk.specs.Terms.{terms}
+use Rattle.dots_fused_block.specs.Terms.{terms}
 
 module _ (f : FormatK) where
-  -- a block is a run of one block
-  pub one-block : (bs : List ℕ) (i : ℕ) → length bs ≡ bytesK f → i < 256 → weightAt (OfK f) bs i ≡ valueK f bs i
-  unfolding weightAt
-  one-block bs i e h =
-      let b : i / 256 ≡ 0 = omega arith in
-      let l : i % 256 ≡ i = omega arith in
-      rw (b, l, zero-mul (bytesK f), take-all (bytesK f) bs (le-of-eq e))
-
   -- the terms of a part of the readings and of bytes v whose weights are those of w from s on
   terms-part : (x : List Float) (w v : List ℕ) (s k i : ℕ) → i < k → weightAt (OfK f) v i ≡ weightAt (OfK f) w (s + i) → terms f (part x s k) v i ≡ terms f x w (s + i)
   terms-part x w v s k i h e = rw (part-at x s k i nan h, e)

@@ -1,7 +1,7 @@
-// One chunk of a row: its blocks' terms go to eight lanes, which meet in the tree. The loop over blocks is one for both
-// formats, with one look at the format for each block.
-use crate::runs::add_runs;
-use crate::sub_blocks::add_sub_blocks;
+// One chunk of a row: its blocks' terms go to eight lanes, which meet in the tree. The loop over blocks is one for all
+// formats.
+use dots_fused_block::add_block;
+use dots_fused_block::add_short;
 use layouts::Format;
 use layouts::FormatK;
 ghost use mathlib.Core.Path.{_≡_};
@@ -10,37 +10,9 @@ ghost use lib.ListN.{length};
 ghost use Rattle.refusals.specs.Sizes.{mostIn};
 ghost use Rattle.layouts.specs.Formats.{bytesK};
 ghost use Rattle.layouts.specs.Weights.{valuesOf};
-ghost use Rattle.sums_lanes.specs.Lanes.{lanesFrom, lanes};
+ghost use Rattle.sums_lanes.specs.Lanes.{lanes};
 ghost use Rattle.sums.specs.Rows.{chunksIn, chunkAt};
-ghost use Rattle.dots_fused_chunk.specs.Terms.{terms};
-
-// The lanes `l` after the 256 terms of a block.
-fn add_block(format: FormatK, l: [f32; 8], x: &[f32], block: &[u8]) -> [f32; 8]
-    requires { ⌜ (length (now x) ≡ 256) × (length (now block) ≡ bytesK format) ⌝ }
-    ensures { λ r. ⌜ r ≡ lanesFrom l (terms format (now (x .entry)) (now (block .entry))) 256 ⌝ }
-{
-    match format {
-        FormatK::Q4K => {
-            let q = k_layouts::quants_q4k(block);
-            add_sub_blocks(l, x, block, &q)
-        }
-        FormatK::Q6K => {
-            let q = k_layouts::quants_q6k(block);
-            add_runs(l, x, block, &q)
-        }
-    }
-}
-
-// The lanes `l` after the terms of a row's last block, of which only the first places count. It is decoded as a whole,
-// since the row may end inside a run.
-fn add_short(format: FormatK, l: [f32; 8], x: &[f32], block: &[u8]) -> [f32; 8]
-    requires { ⌜ (length (now x) ≤ 256) × (length (now block) ≡ bytesK format) ⌝ }
-    ensures { λ r. ⌜ r ≡ lanesFrom l (terms format (now (x .entry)) (now (block .entry))) (length (now (x .entry))) ⌝ }
-{
-    let mut values = [0.0f32; 256];
-    decoded_blocks::decode_k(format, block, &mut values);
-    sums_lanes::add_products(l, x, &values)
-}
+ghost use Rattle.dots_fused_block.specs.Terms.{terms};
 
 // The lanes of the whole blocks of x, the first of which has the weights of the first block of w.
 fn whole_blocks(format: FormatK, x: &[f32], w: &[u8]) -> [f32; 8]

@@ -1,7 +1,5 @@
 // The fused dot of one chunk: packed weights are decoded and multiplied a block at a time, so that no decoded row is
 // held.
 mod chunk;
-mod runs;
-mod sub_blocks;
 
 pub use chunk::chunk_dot;

@@ -14,7 +14,7 @@ use Rattle.memory.specs.Lists.{table}
 use Rattle.layouts.specs.declared.format.FormatK.{FormatK}
 use Rattle.sums_tree.specs.Tree.{tree, met}
 use Rattle.sums.specs.Rows.{rowSum}
-use Rattle.dots_fused_chunk.specs.Terms.{terms}
+use Rattle.dots_fused_block.specs.Terms.{terms}
 use Rattle.dots_fused.specs.Says.{fusedSays}
 use Rattle.layers_shape.specs.Shapes.{rowBytes}
 use Rattle.layers_shape.proofs.Rows.{row-values}

@@ -12,7 +12,7 @@ use Rattle.layouts.specs.Formats.{formatNamed}
 use Rattle.layouts.specs.declared.format.FormatK.{FormatK}
 use Rattle.sums_tree.specs.Tree.{tree}
 use Rattle.sums.specs.Rows.{chunkAt}
-use Rattle.dots_fused_chunk.specs.Terms.{terms}
+use Rattle.dots_fused_block.specs.Terms.{terms}
 use Rattle.layers_shape.specs.Shapes.{weightRow}
 use Rattle.stepped_shape.specs.declared.shape.Layer.{Layer}
 use Rattle.stepped_shape.specs.Layer.{Memory, memory, chunks, place}

@@ -4,7 +4,7 @@ use Prim.Native.Nat.{_-_}
 use lib.Seq.{length-take-le}
 use Rattle.sums.specs.Rows.{chunksIn}
 use Rattle.sums.proofs.RowLaws.{Chunking, chunking-start, chunking-more, chunking-met}
-use Rattle.dots_fused_chunk.specs.Terms.{terms}
+use Rattle.dots_fused_block.specs.Terms.{terms}
 use native.Mathlib.Omega.{arith}
 use Rattle.dots_fused.proofs.dot.row_dot.Statement.{statement}
 use Rattle.dots_fused.proofs.dot.row_dot.Tie as tie

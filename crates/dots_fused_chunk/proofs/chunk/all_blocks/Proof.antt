@@ -3,9 +3,9 @@ use mathlib.Core.Path.{_≡_, ap, _∙_}
 use Prim.Native.Nat.{_+_, _-_, _*_, _/_, _≤_}
 use lib.ListN.{length}
 use Rattle.sums_lanes.specs.Lanes.{lanes}
-use Rattle.dots_fused_chunk.specs.Terms.{terms}
+use Rattle.dots_fused_block.specs.Terms.{terms}
 use Rattle.dots_fused_chunk.proofs.Rows.{block-room, block-terms}
-use Rattle.dots_fused_chunk.proofs.Grown.{run-more}
+use Rattle.dots_fused_block.proofs.Grown.{run-more}
 use native.Mathlib.Omega.{arith}
 use borrow.Author.Needs.{needs}
 use Rattle.dots_fused_chunk.proofs.chunk.all_blocks.Statement.{statement}

@@ -9,7 +9,7 @@ use Rattle.layouts.specs.declared.format.Format.the-variants.{OfK}
 use Rattle.sums_tree.specs.Tree.{tree}
 use Rattle.sums_lanes.specs.Lanes.{chunkSum}
 use Rattle.sums.proofs.RowLaws.{chunk-part}
-use Rattle.dots_fused_chunk.specs.Terms.{terms}
+use Rattle.dots_fused_block.specs.Terms.{terms}
 use Rattle.dots_fused_chunk.proofs.Rows.{rest-room, rest-terms}
 use native.Mathlib.Omega.{arith}
 use borrow.Author.Needs.{needs}

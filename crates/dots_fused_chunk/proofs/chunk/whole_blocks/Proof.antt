@@ -3,9 +3,9 @@ use Prim.Native.Nat.{_+_, _-_, _*_, _/_, _≤_}
 use lib.ListN.{length}
 use Rattle.sums_lanes.specs.Lanes.{lanes}
 use Rattle.sums_lanes.proofs.LaneLaws.{lanes-none}
-use Rattle.dots_fused_chunk.specs.Terms.{terms}
+use Rattle.dots_fused_block.specs.Terms.{terms}
 use Rattle.dots_fused_chunk.proofs.Rows.{block-room, block-terms}
-use Rattle.dots_fused_chunk.proofs.Grown.{Grown, grown-more, grown-done}
+use Rattle.dots_fused_block.proofs.Grown.{Grown, grown-more, grown-done}
 use native.Mathlib.Omega.{arith}
 use borrow.Author.Needs.{needs}
 use Rattle.dots_fused_chunk.proofs.chunk.whole_blocks.Statement.{statement}

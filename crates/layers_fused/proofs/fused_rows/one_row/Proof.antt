@@ -11,7 +11,7 @@ use Rattle.refusals.proofs.Laws.{value-of, no-refusal}
 use Rattle.memory.proofs.Filled.{Filling, filling-start, filling-more, filling-done, part-length}
 use Rattle.memory.proofs.Parts.{within, lent-part}
 use Rattle.sums.specs.Rows.{rowSum}
-use Rattle.dots_fused_chunk.specs.Terms.{terms}
+use Rattle.dots_fused_block.specs.Terms.{terms}
 use Rattle.layers_shape.specs.Shapes.{rowBytes}
 use Rattle.layers_shape.proofs.Fits.{row-small}
 use Rattle.layers_fused.specs.Says.{fusedDotAt}

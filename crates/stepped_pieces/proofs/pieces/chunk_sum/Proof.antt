@@ -9,7 +9,7 @@ use denote.Ref.{now}
 use Rattle.memory.proofs.Filled.{part-length}
 use Rattle.memory.proofs.Parts.{within, lent-part}
 use Rattle.sums.specs.Rows.{chunkAt}
-use Rattle.dots_fused_chunk.specs.Terms.{terms}
+use Rattle.dots_fused_block.specs.Terms.{terms}
 use Rattle.layers_shape.specs.Shapes.{rowBytes}
 use Rattle.stepped_shape.specs.Layer.{chunks}
 use Rattle.stepped_shape.proofs.Shapes.{shaped, row-enough}

@@ -1,13 +1,13 @@
--- `chunk::add_block` meets its contract: each layout its own. Assumes nothing.
+-- `block::add_block` meets its contract: each layout its own. Assumes nothing.
 use mathlib.Core.Path.{refl, ap, _∙_}
 use native.Mathlib.Omega.{arith}
 use lib.IntN.{pos}
 use Rattle.layouts.specs.Formats.{bytesK}
 use Rattle.layouts.specs.declared.format.FormatK.the-variants.{Q4K, Q6K}
-use Rattle.dots_fused_chunk.proofs.Grown.{laid-out}
+use Rattle.dots_fused_block.proofs.Grown.{laid-out}
 use borrow.Author.Needs.{needs}
-use Rattle.dots_fused_chunk.proofs.chunk.add_block.Statement.{statement}
-use Rattle.dots_fused_chunk.proofs.chunk.add_block.Tie as tie
+use Rattle.dots_fused_block.proofs.block.add_block.Statement.{statement}
+use Rattle.dots_fused_block.proofs.block.add_block.Tie as tie
 
 enum-told : tie.Need-enum-told
 enum-told c = search needs

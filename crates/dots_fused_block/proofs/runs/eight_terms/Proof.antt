@@ -6,11 +6,11 @@ use lib.Ieee.{Float, nan, binary32, add, mul, ofInt}
 use mir.Syntax.{w8}
 use Rattle.numbers.proofs.Signed.{read-is}
 use Rattle.sums_lanes.proofs.LaneLaws.{Adding, adding-start, adding-more, adding-done}
-use Rattle.dots_fused_chunk.specs.Inner.{runTerms}
+use Rattle.dots_fused_block.specs.Inner.{runTerms}
 use native.Mathlib.Omega.{arith}
 use borrow.Author.Needs.{needs}
-use Rattle.dots_fused_chunk.proofs.runs.eight_terms.Statement.{statement}
-use Rattle.dots_fused_chunk.proofs.runs.eight_terms.Tie as tie
+use Rattle.dots_fused_block.proofs.runs.eight_terms.Statement.{statement}
+use Rattle.dots_fused_block.proofs.runs.eight_terms.Tie as tie
 
 abbrev Inv-loop : tie.InvT-loop
 Inv-loop x q d out₀ i₀ out i = Adding out₀ (runTerms x q d) 8 out i

@@ -5,12 +5,12 @@ use lib.IntN.{ℤ, pos}
 use lib.ListN.{getD}
 use Rattle.sums_lanes.proofs.LaneLaws.{lanes-none}
 use Rattle.layouts.specs.declared.format.FormatK.the-variants.{Q4K}
-use Rattle.dots_fused_chunk.specs.Inner.{blockTerms}
-use Rattle.dots_fused_chunk.proofs.Grown.{Grown, grown-more, grown-done, sub-block-terms}
+use Rattle.dots_fused_block.specs.Inner.{blockTerms}
+use Rattle.dots_fused_block.proofs.Grown.{Grown, grown-more, grown-done, sub-block-terms}
 use native.Mathlib.Omega.{arith}
 use borrow.Author.Needs.{needs}
-use Rattle.dots_fused_chunk.proofs.sub_blocks.add_sub_blocks.Statement.{statement}
-use Rattle.dots_fused_chunk.proofs.sub_blocks.add_sub_blocks.Tie as tie
+use Rattle.dots_fused_block.proofs.sub_blocks.add_sub_blocks.Statement.{statement}
+use Rattle.dots_fused_block.proofs.sub_blocks.add_sub_blocks.Tie as tie
 
 abbrev wholes : List ℕ → ℕ → ℤ
 wholes q i = pos (getD q i 0)

@@ -1,4 +1,4 @@
--- `chunk::add_short` meets its contract: the weights are the values of the decoded block. Assumes nothing.
+-- `block::add_short` meets its contract: the weights are the values of the decoded block. Assumes nothing.
 use mathlib.Core.Path.{ap, sym, _∙_}
 use Prim.Native.Nat.{_<_}
 use native.Mathlib.Omega.{arith}
@@ -7,10 +7,10 @@ use lib.Ieee.{nan, binary32, mul}
 use Rattle.memory.proofs.Filled.{getD-table}
 use Rattle.layouts.specs.K.{valueK}
 use Rattle.sums_lanes.proofs.LaneLaws.{lanes-cong}
-use Rattle.dots_fused_chunk.proofs.Rows.{one-block}
+use Rattle.dots_fused_block.proofs.Grown.{one-block}
 use borrow.Author.Needs.{needs}
-use Rattle.dots_fused_chunk.proofs.chunk.add_short.Statement.{statement}
-use Rattle.dots_fused_chunk.proofs.chunk.add_short.Tie as tie
+use Rattle.dots_fused_block.proofs.block.add_short.Statement.{statement}
+use Rattle.dots_fused_block.proofs.block.add_short.Tie as tie
 
 slice-aggregate-decode-k : tie.Need-slice-aggregate-decode-k
 slice-aggregate-decode-k c = search needs

@@ -1,11 +1,11 @@
 -- `sub_blocks::eight_terms` meets its contract. Assumes nothing.
 use Prim.Native.Nat.{_-_}
 use Rattle.sums_lanes.proofs.LaneLaws.{Adding, adding-start, adding-more, adding-done}
-use Rattle.dots_fused_chunk.specs.Inner.{subBlockTerms}
+use Rattle.dots_fused_block.specs.Inner.{subBlockTerms}
 use native.Mathlib.Omega.{arith}
 use borrow.Author.Needs.{needs}
-use Rattle.dots_fused_chunk.proofs.sub_blocks.eight_terms.Statement.{statement}
-use Rattle.dots_fused_chunk.proofs.sub_blocks.eight_terms.Tie as tie
+use Rattle.dots_fused_block.proofs.sub_blocks.eight_terms.Statement.{statement}
+use Rattle.dots_fused_block.proofs.sub_blocks.eight_terms.Tie as tie
 
 abbrev Inv-loop : tie.InvT-loop
 Inv-loop x q d m out₀ i₀ out i = Adding out₀ (subBlockTerms x q d m) 8 out i

@@ -1,11 +1,11 @@
 -- `sub_blocks::add_sub_block` meets its contract: in turn e the eight terms from 8 e on are added. Assumes nothing.
 use Prim.Native.Nat.{_+_, _-_, _*_}
 use Rattle.sums_lanes.proofs.LaneLaws.{lanes-none}
-use Rattle.dots_fused_chunk.specs.Inner.{subBlockTerms}
-use Rattle.dots_fused_chunk.proofs.Grown.{Grown, grown-more, grown-done, sub-block-part}
+use Rattle.dots_fused_block.specs.Inner.{subBlockTerms}
+use Rattle.dots_fused_block.proofs.Grown.{Grown, grown-more, grown-done, sub-block-part}
 use native.Mathlib.Omega.{arith}
-use Rattle.dots_fused_chunk.proofs.sub_blocks.add_sub_block.Statement.{statement}
-use Rattle.dots_fused_chunk.proofs.sub_blocks.add_sub_block.Tie as tie
+use Rattle.dots_fused_block.proofs.sub_blocks.add_sub_block.Statement.{statement}
+use Rattle.dots_fused_block.proofs.sub_blocks.add_sub_block.Tie as tie
 
 abbrev Inv-loop : tie.InvT-loop
 Inv-loop x q d m out₀ e₀ out e = Grown out₀ (subBlockTerms x q d m) 8 4 out e

@@ -6,7 +6,7 @@ ghost use Prim.Native.Nat.{_≤_};
 ghost use lib.IntN.{pos};
 ghost use lib.ListN.{length, getD};
 ghost use Rattle.sums_lanes.specs.Lanes.{lanesFrom};
-ghost use Rattle.dots_fused_chunk.specs.Inner.{blockTerms, subBlockTerms};
+ghost use Rattle.dots_fused_block.specs.Inner.{blockTerms, subBlockTerms};
 
 // Eight terms, one for each lane.
 fn eight_terms(l: [f32; 8], x: &[f32], q: &[u8], d: f32, m: f32) -> [f32; 8]

@@ -1,11 +1,11 @@
 -- `runs::add_run` meets its contract: the second eight terms after the first. Assumes nothing.
 use mathlib.Core.Path.{refl}
 use Rattle.sums_lanes.proofs.LaneLaws.{lanes-none}
-use Rattle.dots_fused_chunk.specs.Inner.{runTerms}
-use Rattle.dots_fused_chunk.proofs.Grown.{run-more, run-part}
+use Rattle.dots_fused_block.specs.Inner.{runTerms}
+use Rattle.dots_fused_block.proofs.Grown.{run-more, run-part}
 use borrow.Author.Needs.{needs}
-use Rattle.dots_fused_chunk.proofs.runs.add_run.Statement.{statement}
-use Rattle.dots_fused_chunk.proofs.runs.add_run.Tie as tie
+use Rattle.dots_fused_block.proofs.runs.add_run.Statement.{statement}
+use Rattle.dots_fused_block.proofs.runs.add_run.Tie as tie
 
 sub-eight-terms : tie.Need-sub-eight-terms
 sub-eight-terms c = search needs

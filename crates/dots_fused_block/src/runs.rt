@@ -5,7 +5,7 @@ ghost use lib.IntN.{pos};
 ghost use lib.ListN.{length, getD};
 ghost use lib.Ieee.{binary32, ofInt};
 ghost use Rattle.sums_lanes.specs.Lanes.{lanesFrom};
-ghost use Rattle.dots_fused_chunk.specs.Inner.{blockTerms, runTerms};
+ghost use Rattle.dots_fused_block.specs.Inner.{blockTerms, runTerms};
 
 // A whole number as a float. It goes over an unsigned byte: SSE2 widens a signed one together with what its register
 // held before, and so waits for the lanes.

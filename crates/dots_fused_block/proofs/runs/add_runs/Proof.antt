@@ -5,12 +5,12 @@ use lib.IntN.{ℤ, pos}
 use lib.ListN.{getD}
 use Rattle.sums_lanes.proofs.LaneLaws.{lanes-none}
 use Rattle.layouts.specs.declared.format.FormatK.the-variants.{Q6K}
-use Rattle.dots_fused_chunk.specs.Inner.{blockTerms}
-use Rattle.dots_fused_chunk.proofs.Grown.{Grown, grown-more, grown-done, run-terms}
+use Rattle.dots_fused_block.specs.Inner.{blockTerms}
+use Rattle.dots_fused_block.proofs.Grown.{Grown, grown-more, grown-done, run-terms}
 use native.Mathlib.Omega.{arith}
 use borrow.Author.Needs.{needs}
-use Rattle.dots_fused_chunk.proofs.runs.add_runs.Statement.{statement}
-use Rattle.dots_fused_chunk.proofs.runs.add_runs.Tie as tie
+use Rattle.dots_fused_block.proofs.runs.add_runs.Statement.{statement}
+use Rattle.dots_fused_block.proofs.runs.add_runs.Tie as tie
 
 abbrev wholes : List ℤ → ℕ → ℤ
 wholes q i = getD q i (pos 0)

@@ -1,23 +1,34 @@
 -- Lanes that grow by runs of terms, and a K block's terms in its runs. Assumes nothing.
 use mathlib.Core.Path.{_≡_, sym, ap, _∙_}
 use Prim.Native.Nat.{ℕ, _+_, _*_, _/_, _%_, _≤_, _<_}
+use native.Mathlib.Nat.{zero-mul, le-of-eq}
 use native.Mathlib.Omega.{arith}
 use mathlib.Core.List.{List}
 use lib.IntN.{ℤ, pos}
 use lib.ListN.{length, getD}
+use lib.Seq.{take-all}
 use lib.Ieee.{Float, nan, binary32, mul}
 use Rattle.memory.specs.Lists.{table, part}
 use Rattle.memory.proofs.Filled.{getD-table, part-at}
 use Rattle.layouts.specs.Formats.{bytesK}
-use Rattle.layouts.specs.K.{quantK, dScale, dminMinimum, valueOf}
+use Rattle.layouts.specs.K.{quantK, valueK, dScale, dminMinimum, valueOf}
+use Rattle.layouts.specs.Weights.{weightAt}
 use Rattle.layouts.specs.declared.format.FormatK.{FormatK}
 use Rattle.layouts.specs.declared.format.FormatK.the-variants.{Q4K, Q6K}
+use Rattle.layouts.specs.declared.format.Format.the-variants.{OfK}
 use Rattle.decoded_blocks.proofs.Runs.{run-of-16}
 use Rattle.sums_lanes.specs.Lanes.{lanesFrom}
 use Rattle.sums_lanes.proofs.LaneLaws.{lanes-cong, lanes-block}
-use Rattle.dots_fused_chunk.specs.Terms.{terms}
-use Rattle.dots_fused_chunk.specs.Inner.{blockTerms, subBlockTerms, runTerms}
-use Rattle.dots_fused_chunk.proofs.Rows.{one-block}
+use Rattle.dots_fused_block.specs.Terms.{terms}
+use Rattle.dots_fused_block.specs.Inner.{blockTerms, subBlockTerms, runTerms}
+
+-- a block is a run of one block
+pub one-block : (f : FormatK) (bs : List ℕ) (i : ℕ) → length bs ≡ bytesK f → i < 256 → weightAt (OfK f) bs i ≡ valueK f bs i
+unfolding weightAt
+one-block f bs i e h =
+    let b : i / 256 ≡ 0 = omega arith in
+    let l : i % 256 ≡ i = omega arith in
+    rw (b, l, zero-mul (bytesK f), take-all (bytesK f) bs (le-of-eq e))
 
 -- k terms more, after m of them, a multiple of 8: q has them, and p, the whole's terms, has them from m on
 pub run-more : (l out next : List Float) (p q : ℕ → Float) (m k t : ℕ) → m % 8 ≡ 0 → m + k ≡ t → ((i : ℕ) → i < k → q i ≡ p (m + i)) → next ≡ lanesFrom out q k → out ≡ lanesFrom l p m

@@ -4,9 +4,9 @@ use mathlib.Core.Bool.{false}
 use borrow.Author.Needs.{needs}
 use lib.IntN.{ℤ, pos, natAbs}
 use lib.Ieee.{binary32, fin, sub, ofInt, ofBits}
-use Rattle.dots_fused_chunk.proofs.SignedBytes.{above-under, wide-fits, sum-fits, sum-is, back}
-use Rattle.dots_fused_chunk.proofs.runs.to_f32.Statement.{statement}
-use Rattle.dots_fused_chunk.proofs.runs.to_f32.Tie as tie
+use Rattle.dots_fused_block.proofs.SignedBytes.{above-under, wide-fits, sum-fits, sum-is, back}
+use Rattle.dots_fused_block.proofs.runs.to_f32.Statement.{statement}
+use Rattle.dots_fused_block.proofs.runs.to_f32.Tie as tie
 
 cast-result : tie.Need-cast-result
 cast-result c = wide-fits (c .args .q) (c .fits .q .sfits)

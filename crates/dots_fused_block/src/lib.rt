@@ -1,0 +1,8 @@
+// A packed block times its readings: each term goes to its lane, and no decoded value is stored but for a block of which
+// only the first places count.
+mod block;
+mod runs;
+mod sub_blocks;
+
+pub use block::add_block;
+pub use block::add_short;

@@ -1,4 +1,0 @@
-// `fillin` on an empty input.
-fn main() {
-    fillin_loop::fill_in(fillin_loop::standard());
-}
