@@ -1,5 +1,5 @@
 -- Laws of chunks and rows, over any terms p, and a dot that does not refuse. Assumes nothing.
-use mathlib.Core.Path.{_≡_, refl, ap, _∙_}
+use mathlib.Core.Path.{_≡_, refl, sym, ap, _∙_}
 use mathlib.Core.List.{List}
 use Prim.Native.Nat.{ℕ, zero, suc, _+_, _-_, _*_, _≤_, _<_}
 use native.Mathlib.Nat.{min-le-right}
@@ -13,7 +13,7 @@ use Rattle.refusals.specs.Refusals.{given}
 use Rattle.refusals.specs.Sizes.{mostIn}
 use Rattle.memory.specs.Lists.{table, filled}
 use Rattle.memory.proofs.Filled.{length-table, table-ext, Filling, filling-start, filling-more}
-use Rattle.sums_tree.specs.Tree.{tree, met, combined}
+use Rattle.sums_tree.specs.Tree.{tree, met, pairUp, combined}
 use Rattle.sums_lanes.specs.Lanes.{products, lanes, chunkSum}
 use Rattle.sums.specs.Rows.{chunksIn, chunkLength, chunkAt, rowSum}
 use Rattle.sums.specs.Says.{dotSays}
@@ -34,6 +34,19 @@ row-cong p q n h =
 pub chunk-part : (p q : ℕ → Float) (n c k : ℕ) → k ≡ chunkLength n c → ((i : ℕ) → i < k → q i ≡ p (8192 * c + i)) → chunkSum q k ≡ chunkAt p n c
 unfolding chunkAt
 chunk-part p q n c k e h = chunk-cong q (λ i. p (8192 * c + i)) k h ∙ ap (chunkSum (λ i. p (8192 * c + i))) e
+
+-- a tree of one is what stands in it
+tree-of-one : (f : ℕ → Float) → tree (table f 1) ≡ f 0
+unfolding tree met pairUp table
+tree-of-one f = refl
+
+-- A row of one chunk: its sum is the chunk's.
+pub one-chunk : (p : ℕ → Float) (n : ℕ) → 0 < n → n ≤ 8192 → chunkSum p n ≡ rowSum p n
+unfolding rowSum
+one-chunk p n some few =
+    let one : chunksIn n ≡ 1 = omega arith in
+    let all : chunkLength n 0 ≡ n = omega arith in
+    chunk-part p p n 0 n (sym all) (λ i u. ap p (omega arith)) ∙ sym (tree-of-one (chunkAt p n)) ∙ sym (ap (λ (k : ℕ). tree (table (chunkAt p n) k)) one)
 
 -- ---- the sums of a row's chunks in an array of 16, which held old: after c of them it is sums
 

@@ -1,6 +1,6 @@
 // The dot of a row: the dots of its chunks meet in the tree.
 ghost use mathlib.Core.Path.{_≡_};
-ghost use Prim.Native.Nat.{_≤_};
+ghost use Prim.Native.Nat.{_≤_, _<_};
 ghost use lib.ListN.{length};
 ghost use Rattle.refusals.specs.Said.{saidBy};
 ghost use Rattle.refusals.specs.Sizes.{mostIn};
@@ -15,11 +15,14 @@ use refusals::Answer;
 use sums_lanes::chunk_dot;
 use sums_tree::canonical_combine;
 
-// The dot of the first n places.
+// The dot of the first n places. That of a row of one chunk is the chunk's: a tree of one is what stands in it.
 fn row_dot(x: &[f32], w: &[f32], n: usize) -> f32
-    requires { ⌜ (n ≤ mostIn) × (n ≤ length (now x)) × (n ≤ length (now w)) ⌝ }
+    requires { ⌜ (0 < n) × (n ≤ mostIn) × (n ≤ length (now x)) × (n ≤ length (now w)) ⌝ }
     ensures { λ r. ⌜ r ≡ rowSum (products (now (x .entry)) (now (w .entry))) n ⌝ }
 {
+    if n <= CHUNK {
+        return chunk_dot(&x[..n], &w[..n]);
+    }
     let chunks = chunks_in(n);
     let mut sums = [0.0f32; MOST_CHUNKS];
     let mut c: usize = 0;

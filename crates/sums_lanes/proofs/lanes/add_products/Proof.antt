@@ -1,9 +1,9 @@
 -- `lanes::add_products` meets its contract. Assumes nothing.
-use mathlib.Core.Path.{refl}
+use mathlib.Core.Path.{refl, ap, _∙_}
 use Prim.Native.Nat.{_-_, _+_}
 use native.Mathlib.Omega.{arith}
 use lib.ListN.{length}
-use Rattle.sums_lanes.specs.Lanes.{products}
+use Rattle.sums_lanes.specs.Lanes.{lanesFrom, products}
 use Rattle.sums_lanes.proofs.LaneLaws.{lanes-none, products-part, Eights, eights-more, eights-done}
 use Rattle.sums_lanes.proofs.lanes.add_products.Statement.{statement}
 use Rattle.sums_lanes.proofs.lanes.add_products.Tie as tie
@@ -60,6 +60,12 @@ loop-again c =
     let s = b .loop .s in
     eights-more (a .l) (products (a .x .now) (a .w .now)) _ _ _ (b .loop .out) _ s (omega arith) (omega arith) (λ i h. products-part (a .x .now) (a .w .now) s (s + 8 - s) (s + 8 - s) i (omega arith) (omega arith)) (c .eight-products .ensures) (b .loop .inv)
 
+returns : tie.Need-returns Inv-loop μ-loop
+returns c =
+    let b = c .before .before in
+    let a = b .before .before .before .args in
+    b .loop .inv .2 ∙ ap (lanesFrom (a .l) (products (a .x .now) (a .w .now))) (omega arith)
+
 mul-eight-products-3 : tie.Need-mul-eight-products-3 Inv-loop μ-loop
 mul-eight-products-3 c = omega arith
 
@@ -87,9 +93,9 @@ part-eight-products-end-4 c = omega arith
 eight-products-requires-2 : tie.Need-eight-products-requires-2 Inv-loop μ-loop
 eight-products-requires-2 c κs = omega arith
 
-returns : tie.Need-returns Inv-loop μ-loop
-returns c =
-    let b = c .before .before .before .before in
+returns-2 : tie.Need-returns-2 Inv-loop μ-loop
+returns-2 c =
+    let b = c .before .before .before .before .before in
     let a = b .before .before .before .args in
     let s = b .loop .s in
     eights-done (a .l) (products (a .x .now) (a .w .now)) _ _ _ (b .loop .out) _ s (omega arith) (λ i h. products-part (a .x .now) (a .w .now) s (length (a .x .now) - s) (length (a .w .now) - s) i (omega arith) (omega arith)) (c .eight-products2 .ensures) (b .loop .inv)
@@ -114,6 +120,7 @@ add-products-spec =
     eight-products-requires
     loop-less
     loop-again
+    returns
     mul-eight-products-3
     sub-eight-products-3
     part-eight-products-start-3
@@ -123,4 +130,4 @@ add-products-spec =
     part-eight-products-start-4
     part-eight-products-end-4
     eight-products-requires-2
-    returns)
+    returns-2)
