@@ -1,21 +1,15 @@
 // The two rules that round, and what a reading is multiplied by before it is rounded.
-use crate::magnitudes::larger_of;
+use crate::ends::larger_of;
+use crate::ends::smaller_of;
 use numbers::magnitude_of;
 ghost use mathlib.Core.Path.{_≡_};
 ghost use Prim.Native.Nat.{_<_};
-ghost use mathlib.Core.Bool.{true, cond};
+ghost use mathlib.Core.Bool.{true};
 ghost use mathlib.Core.Logic.{_⊎_};
 ghost use lib.IntN.{pos};
 ghost use lib.Ieee.{binary32, ofBits, lt};
 ghost use Rattle.numbers.specs.Steps.{nought, truncated};
 ghost use Rattle.readings.specs.Readings.{inverse, held, quantQ8, quantQ40};
-
-// The smaller of the two; b where a is a NaN.
-fn smaller_of(a: f32, b: f32) -> f32
-    ensures { λ r. ⌜ r ≡ cond (lt a b) a b ⌝ }
-{
-    if a < b { a } else { b }
-}
 
 // The whole part of c, which is +0.0 or above it, and below 256. From 2^23 on an f32 has no fraction, so adding 2^23
 // rounds c to a whole number next to it, and taking 2^23 off again is exact. Where that is above c, it is one too large.
@@ -32,7 +26,7 @@ fn held_whole(t: f32, most: u8) -> i32
     requires { ⌜ 0 < most ⌝ }
     ensures { λ r. ⌜ r ≡ held (pos 0) (pos most) (truncated t) ⌝ }
 {
-    small_whole(smaller_of(larger_of(0.0, t), most as f32))
+    small_whole(smaller_of(most as f32, larger_of(0.0, t)))
 }
 
 // The Q8 quant of p, a reading times the inverse. The rule is the same on both sides of 0, so it is the magnitude that
