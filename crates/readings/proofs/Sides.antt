@@ -30,6 +30,7 @@ turned s v = cond s (neg v) v
 abbrev pub unitsTo : Bool → Float → ℕ
 unitsTo s v = unitsUp (turned s v)
 
+-- .. and how many reading i does
 abbrev pub unitsToAt : Bool → List Float → ℕ → ℕ
 unitsToAt s xs i = unitsTo s (getD xs i nan)
 
@@ -148,12 +149,13 @@ taken s v t {a} {k} p = rw (further-is s a v, beyond-is s v t p) (by (ltb k (uni
         rw (max-eq-right (le-of-lt l)) (far-of s v t (lt-of-le-of-lt zero-le l))
     by false e = rw (max-eq-left (ltb-false k (unitsTo s v) e)) p
 
--- the units are those of the float, and it is one of the format
+-- +0.0 is no units on either side
 pub nought-units : (s : Bool) → unitsTo s nought ≡ 0
 unfolding ofBits neg
 nought-units false = refl
 nought-units true = refl
 
+-- the units are those of the float, and it is one of the format
 pub far-units : {s : Bool} {a : Float} {k : ℕ} → Far s a k → unitsTo s a ≡ k
 far-units {s} nowhere = nought-units s
 far-units (somewhere h p) = up-are (p .size) ∙ units-are p
