@@ -41,7 +41,7 @@ reached-is v most {k} t p = rw (under-magnitude v t none) (by (ltb 0 (unitsOf v)
 
 module _ (xs : List Float) (n : ℕ) (fit : (i : ℕ) → i < n → T (fits binary32 (getD xs i nan))) where
   -- the largest magnitude of the first k, and whether reading k is above it
-  taken? : (k : ℕ) → k < n → lt (largest xs k) (magnitude (getD xs k nan)) ≡ ltb (peak (unitsAt xs) k) (unitsAt xs k)
+  pub taken? : (k : ℕ) → k < n → lt (largest xs k) (magnitude (getD xs k nan)) ≡ ltb (peak (unitsAt xs) k) (unitsAt xs k)
   taken? k h = under-magnitude (getD xs k nan) (fit k h) (largest-measured xs k (λ i l. fit i (lt-of-lt-of-le l (omega arith))))
 
   -- the first of the first k readings that has as many units as any has the value
@@ -61,7 +61,7 @@ module _ (xs : List Float) (n : ℕ) (fit : (i : ℕ) → i < n → T (fits bina
       ]
 
   -- and where none has any it is +0.0
-  no-value : (k : ℕ) → k ≤ n → peak (unitsAt xs) k ≡ 0 → largestValue xs k ≡ nought
+  pub no-value : (k : ℕ) → k ≤ n → peak (unitsAt xs) k ≡ 0 → largestValue xs k ≡ nought
   unfolding largestValue
   no-value zero r e = refl
   no-value (suc k) r e =

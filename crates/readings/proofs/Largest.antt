@@ -70,7 +70,7 @@ in-format s (suc m) e t =
 few-units : (m : ℕ) (e : ℤ) → m * up e < 2 ^ 128 * down e → m * up e * 2 ^ 149 / down e < 2 ^ 277
 few-units m e h = div-lt-iff-lt-mul (down-pos e) .1 (lt-of-lt-of-le (mul-lt-mul-of-pos-right h (pow-pos 149)) (le-of-eq (mul-right-comm (2 ^ 128) (down e) (2 ^ 149))))
 
-measured : (m : ℕ) (e : ℤ) → T (fits binary32 (fin false m e)) → Measured (fin false m e) (m * up e * 2 ^ 149 / down e)
+pub measured : (m : ℕ) (e : ℤ) → T (fits binary32 (fin false m e)) → Measured (fin false m e) (m * up e * 2 ^ 149 / down e)
 measured m e t =
     let f = in-format false m e t in
     let r = 2 ^ 149 / down e in
@@ -108,25 +108,16 @@ units-are p = go (p .size)
     go infinite = refl
     go {x} {k} (finite a h) = rw (a .shape) (ap (λ (n : ℕ). n / down (a .place)) (a .same) ∙ mul-div-cancel k (down-pos (a .place)))
 
--- ---- the larger of two, and the largest
-
-pub larger : {x y : Float} {k l : ℕ} → Measured x k → Measured y l → Measured (cond (lt x y) y x) (max k l)
-larger {x} {y} {k} {l} p q = rw (lt-size (p .size) (q .size)) (by (ltb k l) refl)
-  where
-    by : (t : Bool) → ltb k l ≡ t → Measured (cond t y x) (max k l)
-    by true e = rw (max-eq-right (le-of-lt (ltb-true k l e))) q
-    by false e = rw (max-eq-left (ltb-false k l e)) p
-
 -- ---- readings
 
 -- nothing is below a NaN, and what is not negative is not below -0.0
-under-nan : (a : Float) → lt a nan ≡ false
+pub under-nan : (a : Float) → lt a nan ≡ false
 unfolding lt
 under-nan nan = refl
 under-nan (inf s) = refl
 under-nan (fin s m e) = refl
 
-under-minus : {a : Float} {k : ℕ} (m : ℕ) (e : ℤ) → Size a k → lt a (fin true m e) ≡ false
+pub under-minus : {a : Float} {k : ℕ} (m : ℕ) (e : ℤ) → Size a k → lt a (fin true m e) ≡ false
 unfolding lt
 under-minus m e infinite = refl
 under-minus m e (finite p h) = rw (p .shape)

@@ -7,5 +7,7 @@ pub mod Signs
 pub mod BothSides
 pub mod Peaks
 pub mod Largest
+pub mod Sides
 pub mod EightLanes
 pub mod FirstLargest
+pub mod TwoEnds

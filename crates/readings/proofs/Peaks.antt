@@ -12,13 +12,17 @@ pub peak-same : (f g : ℕ → ℕ) (n : ℕ) → ((i : ℕ) → i < n → f i �
 peak-same f g zero h = refl
 peak-same f g (suc n) h = rw (peak-same f g n (λ i k. h i (lt-of-lt-of-le k (le-suc n))), h n (le-refl (suc n)))
 
-peak-both : (f g : ℕ → ℕ) (n : ℕ) → peak (λ i. max (f i) (g i)) n ≡ max (peak f n) (peak g n)
+pub peak-both : (f g : ℕ → ℕ) (n : ℕ) → peak (λ i. max (f i) (g i)) n ≡ max (peak f n) (peak g n)
 peak-both f g zero = refl
 peak-both f g (suc n) = rw (peak-both f g n) (omega arith)
 
 pub peak-add : (f : ℕ → ℕ) (a b : ℕ) → peak f (a + b) ≡ max (peak f a) (peak (λ i. f (a + i)) b)
 peak-add f a zero = rw (add-zero a) (omega arith)
 peak-add f a (suc b) = rw (add-suc a b, peak-add f a b) (omega arith)
+
+-- the second half may be met with the first, place by place
+pub peak-halves : (f : ℕ → ℕ) (n : ℕ) → peak (λ i. max (f i) (f (n + i))) n ≡ peak f (n + n)
+peak-halves f n = peak-both f (λ i. f (n + i)) n ∙ sym (peak-add f n n)
 
 -- t numbers in each of eight lanes
 pub lanes-peak : (f : ℕ → ℕ) (t : ℕ) → peak (λ l. peak (λ q. f (8 * q + l)) t) 8 ≡ peak f (8 * t)

@@ -1,5 +1,5 @@
 -- The whole part of a small float without a cast of a fraction: adding 2 ^ 23 rounds it to a whole number next to it, since a binary32 has no fraction from there on; taking 2 ^ 23 off again is exact; and a comparison says whether the whole number is one too large. Assumes nothing.
-use mathlib.Core.Path.{_≡_, sym, ap, _∙_, subst}
+use mathlib.Core.Path.{_≡_, refl, ap, _∙_, subst}
 use mathlib.Core.Bool.{Bool, true, false, cond, false≢true}
 use mathlib.Core.Logic.{_⊎_, inl, inr}
 use Prim.Native.Nat.{ℕ, _+_, _-_, _*_, _/_, _%_, _^_, _≤_, _<_, compare}
@@ -13,7 +13,7 @@ use lib.Ieee.{Float, nan, inf, fin, binary32, up, down, size, round, lt, add, su
 use lib.Ieee.Back.{round-whole, whole-unique}
 use lib.Ieee.Digits.{size-lt, size-le}
 use lib.Ieee.Exact.{HasValue}
-use lib.Ieee.Fits.{nearest-le, cond-fits, sub-fits, round-fits}
+use lib.Ieee.Fits.{nearest-le, sub-fits, round-fits}
 use lib.Ieee.Nearest.{closest, closest-same, nearest-ge}
 use lib.Ieee.Scale.{grid, round-val}
 use Rattle.numbers.specs.Steps.{nought, truncated}
@@ -61,17 +61,6 @@ module _ (a d : ℕ) (D : 0 < d) (from : 2 ^ 23 * d ≤ a) (under : a < 2 ^ 24 *
       unscaled (round binary32 false a d) (closest a d) (2 ^ 149) (pow-pos 149)
       (subst (λ (q : ℕ). HasValue (round binary32 false a d) false q (2 ^ 149)) on-grid (round-val binary32 a d small))
 
--- ---- whole numbers as floats
-
--- a whole number less 2 ^ j is exact
-less : (j q : ℕ) {x : Float} → Fraction x q 1 → 2 ^ j ≤ q → q ≤ 2 ^ 24 → Fraction (sub binary32 x (fin false 1 (pos j))) (q - 2 ^ j) 1
-less j q {x} p l h =
-    let e : sub binary32 x (fin false 1 (pos j)) ≡ round binary32 false (q - 2 ^ j) 1 = simp mul-one at (sub-is p (power j) (mul-le-mul-right 1 l)) in
-    rw e (of-value (round binary32 false (q - 2 ^ j) 1) (q - 2 ^ j) 1 (lit< tt) (round-whole binary32 false (q - 2 ^ j) (le-trans (sub-le q (2 ^ j)) h)))
-  where
-    sub-le : (m n : ℕ) → m - n ≤ m
-    sub-le m n = omega arith
-
 -- ---- +0.0 or above, and below 256
 
 pub record Small (c : Float) : Type 0 where
@@ -100,13 +89,9 @@ small (fin false m e) (inr g) h = record {
 abbrev big : Float
 big = fin false 1 (pos 23)
 
--- the whole number next to c that adding 2 ^ 23 and taking it off again leaves, ..
-abbrev near : Float → Float
+-- the whole number next to c that adding 2 ^ 23 and taking it off again leaves
+abbrev pub near : Float → Float
 near c = sub binary32 (add binary32 c big) big
-
--- .. or the one before, where that is above c
-abbrev wholeOf : Float → Float
-wholeOf c = cond (lt c (near c)) (sub binary32 (near c) (fin false 1 (pos 0))) (near c)
 
 module _ (c : Float) (n d : ℕ) (p : Fraction c n d) (b : n < 256 * d) where
   -- what 2 ^ 23 and c are rounded to
@@ -128,45 +113,49 @@ module _ (c : Float) (n d : ℕ) (p : Fraction c n d) (b : n < 256 * d) where
       let e : add binary32 c big ≡ round binary32 false (n + 8388608 * d) d = simp mul-one at (add-is p (power 23)) in
       rw e (rounds (n + 8388608 * d) d (p .some) (omega arith) (omega arith))
 
-  near-is : Fraction (near c) (sum - 8388608) 1
-  near-is = less 23 sum added (omega (arith, next)) (omega (arith, next, whole-small))
+  near-small : sum - 8388608 ≤ 256
+  near-small = omega (arith, next, whole-small)
 
-  -- the whole part, as a float
-  pub whole-is : Fraction (wholeOf c) (n / d) 1
-  whole-is = by (lt c (near c)) (sym (lt-is p near-is))
+  near-is : Fraction (near c) (sum - 8388608) 1
+  near-is =
+      let l : 8388608 ≤ sum = omega (arith, next) in
+      let e : near c ≡ round binary32 false (sum - 8388608) 1 = simp mul-one at (sub-is added (power 23) (mul-le-mul-right 1 l)) in
+      rw e (of-value (round binary32 false (sum - 8388608) 1) (sum - 8388608) 1 (lit< tt) (round-whole binary32 false (sum - 8388608) (omega (arith, near-small))))
+
+  near-float : near c ≡ ofInt binary32 (pos (sum - 8388608))
+  unfolding ofInt
+  near-float =
+      whole-unique binary32 (near c) (round binary32 false (sum - 8388608) 1) false (sum - 8388608) (sub-fits binary32 (add binary32 c big) big) (round-fits binary32 false (sum - 8388608) 1) (to-value near-is)
+      (round-whole binary32 false (sum - 8388608) (omega (arith, near-small)))
+
+  -- it is the whole part, or one more where it is above c
+  one-more : sum - 8388608 ≡ n / d + cond (lt c (near c)) 1 0
+  one-more = rw (lt-is p near-is) (by (ltb (n * 1) ((sum - 8388608) * d)) refl)
     where
-      by : (t : Bool) → ltb (n * 1) ((sum - 8388608) * d) ≡ t → Fraction (cond t (sub binary32 (near c) (fin false 1 (pos 0))) (near c)) (n / d) 1
+      by : (t : Bool) → ltb (n * 1) ((sum - 8388608) * d) ≡ t → sum - 8388608 ≡ n / d + cond t 1 0
       by true e =
           let k : n / d < sum - 8388608 = div-lt-iff-lt-mul (p .some) .1 (rw mul-one at (ltb-true (n * 1) ((sum - 8388608) * d) e)) in
-          let one-less : sum - 8388608 - 1 ≡ n / d = omega (arith, next) in
-          rw one-less at (less 0 (sum - 8388608) near-is (omega arith) (omega (arith, next, whole-small)))
+          omega (arith, next)
       by false e =
           let k : sum - 8388608 ≤ n / d = le-div-iff-mul-le (p .some) .1 (rw mul-one at (ltb-false (n * 1) ((sum - 8388608) * d) e)) in
-          let same : sum - 8388608 ≡ n / d = omega (arith, next) in
-          rw same at near-is
+          omega (arith, next)
 
--- the whole part of c is below 256, ..
-pub small-under : {c : Float} (s : Small c) → s .num / s .den < 256
-small-under {c} s = whole-small c (s .num) (s .den) (s .fraction) (s .below)
+-- the whole part of c is w, and the whole number next to c is w, or one more where it is above c
+pub record Whole (c : Float) : Type 0 where
+  pub w : ℕ
+  pub under : w < 256
+  pub is : truncated c ≡ pos w
+  pub next-to : near c ≡ ofInt binary32 (pos (w + cond (lt c (near c)) 1 0))
 
--- .. so that nothing holds it, ..
-pub small-is : {c : Float} (s : Small c) → truncated c ≡ pos (s .num / s .den)
-small-is s = cut-is 31 (s .fraction) ∙ ap pos (min-eq-left (under (small-under s)))
+pub whole-of : {c : Float} → Small c → Whole c
+whole-of {c} s =
+    let under = whole-small c (s .num) (s .den) (s .fraction) (s .below) in
+    record {
+      w = s .num / s .den;
+      under = under;
+      is = cut-is 31 (s .fraction) ∙ ap pos (min-eq-left (held under));
+      next-to = near-float c (s .num) (s .den) (s .fraction) (s .below) ∙ ap (λ (k : ℕ). ofInt binary32 (pos k)) (one-more c (s .num) (s .den) (s .fraction) (s .below));
+    }
   where
-    under : {k : ℕ} → k < 256 → k ≤ 2 ^ 31 - 1
-    under h = omega arith
-
--- .. and as a float it is what the additions and the comparison make of c
-pub small-whole : {c : Float} (s : Small c) → wholeOf c ≡ ofInt binary32 (pos (s .num / s .den))
-unfolding ofInt
-small-whole {c} s =
-    let w = s .num / s .den in
-    let p = whole-is c (s .num) (s .den) (s .fraction) (s .below) in
-    whole-unique binary32 (wholeOf c) (round binary32 false w 1) false w
-    (cond-fits binary32 (lt c (near c)) (sub binary32 (near c) (fin false 1 (pos 0))) (near c) (sub-fits binary32 (near c) (fin false 1 (pos 0))) (sub-fits binary32 (add binary32 c big) big))
-    (round-fits binary32 false w 1)
-    (to-value p)
-    (round-whole binary32 false w (under (small-under s)))
-  where
-    under : {k : ℕ} → k < 256 → k ≤ 2 ^ 24
-    under h = omega arith
+    held : {k : ℕ} → k < 256 → k ≤ 2 ^ 31 - 1
+    held h = omega arith

@@ -1,2 +1,3 @@
 -- What readings become.
 pub mod Readings
+pub mod Inner

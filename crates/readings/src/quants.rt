@@ -1,37 +1,24 @@
 // The two rules that round, and what a reading is multiplied by before it is rounded.
-use crate::magnitudes::larger_of;
+use crate::ends::larger_of;
+use crate::ends::smaller_of;
 use numbers::magnitude_of;
 ghost use mathlib.Core.Path.{_≡_};
 ghost use Prim.Native.Nat.{_<_};
-ghost use mathlib.Core.Bool.{true, cond};
+ghost use mathlib.Core.Bool.{true};
 ghost use mathlib.Core.Logic.{_⊎_};
 ghost use lib.IntN.{pos};
-ghost use lib.Ieee.{binary32, ofBits, lt, sub};
+ghost use lib.Ieee.{binary32, ofBits, lt};
 ghost use Rattle.numbers.specs.Steps.{nought, truncated};
 ghost use Rattle.readings.specs.Readings.{inverse, held, quantQ8, quantQ40};
 
-// The smaller of the two; b where a is a NaN.
-fn smaller_of(a: f32, b: f32) -> f32
-    ensures { λ r. ⌜ r ≡ cond (lt a b) a b ⌝ }
-{
-    if a < b { a } else { b }
-}
-
-// The whole number r, or the one before it where r is above c.
-fn down_to(r: f32, c: f32) -> f32
-    ensures { λ w. ⌜ w ≡ cond (lt c r) (sub binary32 r (ofBits binary32 0x3f80_0000)) r ⌝ }
-{
-    if c < r { r - 1.0 } else { r }
-}
-
 // The whole part of c, which is +0.0 or above it, and below 256. From 2^23 on an f32 has no fraction, so adding 2^23
-// rounds c to a whole number next to it, and taking 2^23 off again is exact.
+// rounds c to a whole number next to it, and taking 2^23 off again is exact. Above c that is one too large.
 fn small_whole(c: f32) -> i32
     requires { ⌜ ((c ≡ nought) ⊎ (lt nought c ≡ true)) × (lt c (ofBits binary32 0x4380_0000) ≡ true) ⌝ }
     ensures { λ r. ⌜ r ≡ truncated c ⌝ }
 {
     let near = (c + 8388608.0) - 8388608.0;
-    down_to(near, c) as i32
+    near as i32 - if c < near { 1 } else { 0 }
 }
 
 // The whole part of t, held within 0 and `most`; 0 for a NaN.
@@ -39,7 +26,7 @@ fn held_whole(t: f32, most: u8) -> i32
     requires { ⌜ 0 < most ⌝ }
     ensures { λ r. ⌜ r ≡ held (pos 0) (pos most) (truncated t) ⌝ }
 {
-    small_whole(smaller_of(larger_of(0.0, t), most as f32))
+    small_whole(smaller_of(most as f32, larger_of(0.0, t)))
 }
 
 // The Q8 quant of p, a reading times the inverse. The rule is the same on both sides of 0, so it is the magnitude that

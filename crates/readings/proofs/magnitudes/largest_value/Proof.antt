@@ -1,81 +1,66 @@
--- `readings::largest_value` meets its contract: no reading before i reaches the largest magnitude. Assumes nothing.
+-- `readings::largest_value` meets its contract: the law of the two ends, by how the tests compare them. Assumes nothing.
 use mathlib.Core.Path.{_≡_, sym, _∙_}
-use mathlib.Core.Bool.{false}
+use mathlib.Core.Bool.{true, false}
 use mathlib.Core.List.{List}
-use Prim.Native.Nat.{ℕ, _-_, _≤_, _<_}
-use borrow.Author.Count.{below-none, below-more}
-use lib.ListN.{length, getD}
-use lib.Ieee.{Float, nan}
-use native.Mathlib.Omega.{arith}
+use Prim.Native.Nat.{ℕ, zero-le}
+use native.Mathlib.Nat.{le-antisymm}
 use borrow.Author.Needs.{needs}
-use Rattle.readings.proofs.FirstLargest.{reached, found, nothing-found}
+use borrow.Author.Tests.{ltb-true, ltb-false}
+use denote.Ref.{now}
+use lib.Dec.{T, ltb}
+use lib.ListN.{getD}
+use lib.Ieee.{Float, nan, binary32, lt, neg, fits}
+use Rattle.numbers.specs.Steps.{nought}
+use Rattle.readings.proofs.TwoEnds.{far, other-further, above-zero, further-end, same-ends, no-ends}
 use Rattle.readings.proofs.magnitudes.largest_value.Statement.{statement}
 use Rattle.readings.proofs.magnitudes.largest_value.Tie as tie
 
--- the readings before i do not reach `most`
-abbrev Passed : List Float → Float → ℕ → Type 0
-Passed x most i = (j : ℕ) → j < i → reached (getD x j nan) most ≡ false
+ends-of-requires : tie.Need-ends-of-requires
+ends-of-requires c κs = search needs
 
-abbrev Inv-loop : tie.InvT-loop
-Inv-loop x most i₀ i-end i = (i ≤ length x) × Passed x most i
+module _ (c : tie.After-ends-of) where
+  abbrev xs : List Float
+  xs = now (c .before .before .args .x)
 
-abbrev μ-loop : tie.MeasureT-loop
-μ-loop x most i₀ i-end i = length x - i
+  fit : (i : ℕ) → T (fits binary32 (getD xs i nan))
+  fit = c .before .shared-slice-known .given
 
-largest-magnitude-requires : tie.Need-largest-magnitude-requires Inv-loop μ-loop
-largest-magnitude-requires c κs = search needs
+  -- the three tests
+  up-further : lt (neg (c .ends-of .result .high)) (c .ends-of .result .low) ≡ ltb (far xs fit true) (far xs fit false)
+  up-further = rw (c .ends-of .ensures .0, c .ends-of .ensures .1) (other-further xs fit true)
 
-loop-holds : tie.Need-loop-holds Inv-loop μ-loop
-loop-holds c = (omega arith, below-none _)
+  down-further : lt (c .ends-of .result .high) (neg (c .ends-of .result .low)) ≡ ltb (far xs fit false) (far xs fit true)
+  down-further = rw (c .ends-of .ensures .0, c .ends-of .ensures .1) (other-further xs fit false)
 
-mul-v : tie.Need-mul-v Inv-loop μ-loop
-mul-v c = omega arith
+  some-end : lt nought (c .ends-of .result .high) ≡ ltb 0 (far xs fit false)
+  some-end = rw (c .ends-of .ensures .0) (above-zero xs fit)
 
-shared-slice-read-v : tie.Need-shared-slice-read-v Inv-loop μ-loop
-shared-slice-read-v c = omega arith
+  as-far : lt (neg (c .ends-of .result .high)) (c .ends-of .result .low) ≡ false → lt (c .ends-of .result .high) (neg (c .ends-of .result .low)) ≡ false → far xs fit false ≡ far xs fit true
+  as-far p q = le-antisymm (ltb-false _ _ (sym up-further ∙ p)) (ltb-false _ _ (sym down-further ∙ q))
 
-reaches-requires : tie.Need-reaches-requires Inv-loop μ-loop
-reaches-requires c κs = search needs
-
-returns : tie.Need-returns Inv-loop μ-loop
+returns : tie.Need-returns
 returns c =
-    let l = c .before .before .before .before .loop in
-    let xs = c .before .before .before .before .before .before .before .args .x .now in
-    let most = c .before .before .before .before .before .largest-magnitude .ensures in
-    let given = c .before .before .shared-slice-known2 .given in
-    sym
-    (found xs (length xs) (λ j h. given j) (l .i) (c .before .before .before .loop-test .taken) (λ j h. rw most at (l .inv .1 j h))
-    (rw most at (sym (c .before .reaches .ensures) ∙ c .if1 .taken)))
+    let e = c .before in
+    e .ends-of .ensures .0 ∙ sym (further-end (xs e) (fit e) false (ltb-true _ _ (sym (up-further e) ∙ c .if1 .taken)))
 
-add-i : tie.Need-add-i Inv-loop μ-loop
-add-i c = omega arith
-
-loop-less : tie.Need-loop-less Inv-loop μ-loop
-loop-less c = omega arith
-
-loop-again : tie.Need-loop-again Inv-loop μ-loop
-loop-again c = (omega arith, below-more _ _ (c .before .before .before .before .loop .inv .1) (sym (c .before .reaches .ensures) ∙ c .if1 .left))
-
-returns-2 : tie.Need-returns-2 Inv-loop μ-loop
+returns-2 : tie.Need-returns-2
 returns-2 c =
-    let l = c .before .loop in
-    let xs = c .before .before .before .before .args .x .now in
-    let most = c .before .before .largest-magnitude .ensures in
-    sym (nothing-found xs (length xs) (λ j h. c .before .before .before .shared-slice-known .given j) (λ j h. rw most at (l .inv .1 j (omega arith))))
+    let e = c .before .before in
+    e .ends-of .ensures .1 ∙ sym (further-end (xs e) (fit e) true (ltb-true _ _ (sym (down-further e) ∙ c .if2 .taken)))
+
+first-of-requires : tie.Need-first-of-requires
+first-of-requires c κs =
+    let e = c .before .before .before in
+    e .ends-of .ensures .0 ∙ same-ends (xs e) (fit e) (as-far e (c .before .before .if1 .left) (c .before .if2 .left))
+
+returns-3 : tie.Need-returns-3
+returns-3 c = search needs
+
+returns-4 : tie.Need-returns-4
+returns-4 c =
+    let e = c .before .before .before in
+    sym (no-ends (xs e) (fit e) (as-far e (c .before .before .if1 .left) (c .before .if2 .left)) (le-antisymm (ltb-false _ _ (sym (some-end e) ∙ c .if3 .left)) zero-le))
 
 pub largest-value-spec : {M : Type 1} → statement M
 largest-value-spec =
-    tie.close
-    (tie.spec
-    Inv-loop
-    μ-loop
-    largest-magnitude-requires
-    loop-holds
-    mul-v
-    shared-slice-read-v
-    reaches-requires
-    returns
-    add-i
-    loop-less
-    loop-again
-    returns-2)
+    tie.close (tie.spec ends-of-requires returns returns-2 first-of-requires returns-3 returns-4)

@@ -15,11 +15,11 @@ use Rattle.readings.proofs.Held.{Held, held-is}
 use Rattle.readings.proofs.quants.held_whole.Statement.{statement}
 use Rattle.readings.proofs.quants.held_whole.Tie as tie
 
-larger-of-requires : tie.Need-larger-of-requires
-larger-of-requires c κs = search needs
-
 int-to-float-smaller-of : tie.Need-int-to-float-smaller-of
 int-to-float-smaller-of c = search needs
+
+larger-of-requires : tie.Need-larger-of-requires
+larger-of-requires c κs = search needs
 
 smaller-of-requires : tie.Need-smaller-of-requires
 smaller-of-requires c κs = search needs
@@ -34,7 +34,7 @@ within c =
     let start = c .before .before .before in
     let n = start .args .most in
     let h = start .fits .most .fits in
-    rw (c .smaller-of .ensures, c .before .before .larger-of .ensures) (held-is n (start .pre) h (ofInt binary32 (pos n)) (number n h) (start .args .t))
+    rw (c .smaller-of .ensures, c .before .larger-of .ensures) (held-is n (start .pre) h (ofInt binary32 (pos n)) (number n h) (start .args .t))
 
 small-whole-requires : tie.Need-small-whole-requires
 small-whole-requires c κs = (within c .from-zero, within c .below)
@@ -45,4 +45,4 @@ returns c = read-is w32 _ (c .small-whole .ok) ∙ c .small-whole .ensures ∙ w
 pub held-whole-spec : {M : Type 1} → statement M
 held-whole-spec =
     tie.close
-    (tie.spec larger-of-requires int-to-float-smaller-of smaller-of-requires small-whole-requires returns)
+    (tie.spec int-to-float-smaller-of larger-of-requires smaller-of-requires small-whole-requires returns)

@@ -1,6 +1,6 @@
 -- `readings::smaller_of` meets its contract. Assumes nothing.
-use Rattle.readings.proofs.quants.smaller_of.Statement.{statement}
-use Rattle.readings.proofs.quants.smaller_of.Tie as tie
+use Rattle.readings.proofs.ends.smaller_of.Statement.{statement}
+use Rattle.readings.proofs.ends.smaller_of.Tie as tie
 
 returns : tie.Need-returns
 returns c = rw (c .if1 .taken)

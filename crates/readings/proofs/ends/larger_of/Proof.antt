@@ -1,6 +1,6 @@
 -- `readings::larger_of` meets its contract. Assumes nothing.
-use Rattle.readings.proofs.magnitudes.larger_of.Statement.{statement}
-use Rattle.readings.proofs.magnitudes.larger_of.Tie as tie
+use Rattle.readings.proofs.ends.larger_of.Statement.{statement}
+use Rattle.readings.proofs.ends.larger_of.Tie as tie
 
 returns : tie.Need-returns
 returns c = rw (c .if1 .taken)
