@@ -151,7 +151,7 @@ loop-again c =
     let d = c₁ .before .before in
     let l = d .loop .l in
     let q : ℕ → ℤ = elem (d .before .args .qs .now) in
-    streamed-more (pairOf q) 256 (d .loop .t) l (c₁ .before .loop-test .taken)
+    streamed-more (pairOf q) 256 (d .loop .t) l (omega arith)
     (pair-stored q l l (c₁ .pair .ok) (c₁ .pair .ensures) (omega arith))
     (pair-stored q (16 + l) (32 + l) (c₂ .pair2 .ok) (c₂ .pair2 .ensures) (omega arith))
     (pair-stored q (32 + l) (64 + l) (c₃ .pair3 .ok) (c₃ .pair3 .ensures) (omega arith))
@@ -165,7 +165,7 @@ loop-again c =
 returns : tie.Need-returns Inv-loop μ-loop
 returns c =
     let l = c .before .loop in
-    let r = streamed-all (pairOf (elem (c .before .before .args .qs .now))) 256 (l .t) (l .l) (c .loop-test .left) (l .inv) in
+    let r = streamed-all (pairOf (elem (c .before .before .args .qs .now))) 256 (l .t) (l .l) (omega arith) (l .inv) in
     (r .0, record { near = r .1 })
 
 pub pairs-spec : {M : Type 1} → statement M

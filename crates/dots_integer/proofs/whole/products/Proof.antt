@@ -151,7 +151,7 @@ loop-again c =
     let d = c₁ .before .before in
     let l = d .loop .l in
     let f : ℕ → ℤ = productAt (d .before .args .q .now) (d .before .args .x .now) in
-    streamed-more (pairOf f) 7936 (d .loop .p) l (c₁ .before .loop-test .taken)
+    streamed-more (pairOf f) 7936 (d .loop .p) l (omega arith)
     (pair-stored f l l (c₁ .products-at .ok) (c₁ .products-at .ensures) (omega arith))
     (pair-stored f (16 + l) (32 + l) (c₂ .products-at2 .ok) (c₂ .products-at2 .ensures) (omega arith))
     (pair-stored f (32 + l) (64 + l) (c₃ .products-at3 .ok) (c₃ .products-at3 .ensures) (omega arith))
@@ -166,7 +166,7 @@ returns : tie.Need-returns Inv-loop μ-loop
 returns c =
     let l = c .before .loop in
     let a = c .before .before .args in
-    let r = streamed-all (pairOf (productAt (a .q .now) (a .x .now))) 7936 (l .p) (l .l) (c .loop-test .left) (l .inv) in
+    let r = streamed-all (pairOf (productAt (a .q .now) (a .x .now))) 7936 (l .p) (l .l) (omega arith) (l .inv) in
     (r .0, record { near = r .1 })
 
 pub products-spec : {M : Type 1} → statement M
