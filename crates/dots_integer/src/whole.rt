@@ -1,8 +1,8 @@
 // The whole-number sums of a block dot: scale times quant times activation quant over the places below n, and the
 // minimums times the sums. A sub-block of 32 or a run of 16 has one scale, so that several of its products are summed
 // first. Whatever the bytes are, i16 holds four products of a quant of at most five bits, 4 x 31 x 128 = 15,872 in
-// size, and i32 every sum: of a format with minimums at most 64 x 63 x 15,872, and 16 runs of 16 x 128 x 128, each times
-// a signed byte, stay below 2^31 too.
+// size, and i32 every sum: of a format with minimums at most 64 x 63 x 15,872, and 16 runs of 16 x 128 x 128, each
+// times a signed byte, stay below 2^31 too.
 use layouts::FormatK;
 ghost use mathlib.Core.Path.{_≡_};
 ghost use Prim.Native.Nat.{_+_, _*_, _≤_, _<_};
