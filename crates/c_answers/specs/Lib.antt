@@ -1,3 +1,2 @@
 -- How C is handed what a call says.
 pub mod Answers
-pub mod Blocks

@@ -1,24 +1,9 @@
-// How an activation block is handed to C, and taken from it: as three places, its scale, its quants and its sums.
-use dots_activation::Q8Block;
+// How an activation block is handed to C: as three places, its scale, its quants and its sums.
 use dots_activation::Quantized;
 use refusals::Check;
 ghost use mathlib.Core.Path.{_≡_};
-ghost use Rattle.dots_activation.specs.Blocks.{quantizedSays};
+ghost use Rattle.dots_activation.specs.Blocks.{blockIn, quantizedSays};
 ghost use Rattle.c_answers.specs.Answers.{laidOut};
-ghost use Rattle.c_answers.specs.Blocks.{blockIn};
-
-// The block of three places that C lends.
-pub fn block_in(d: f32, qs: &[i8; 256], bsums: &[i32; 8]) -> Q8Block
-    ensures { λ r. ⌜ r ≡ blockIn d (now (qs .entry)) (now (bsums .entry)) ⌝ }
-{
-    let quants = *qs;
-    let sums = *bsums;
-    Q8Block {
-        d,
-        qs: quants,
-        bsums: sums,
-    }
-}
 
 // The number of a call that makes a block, which is stored in its three places where it was made.
 pub fn lay_out_block(made: Quantized, d: &mut f32, qs: &mut [i8; 256], bsums: &mut [i32; 8]) -> u32

@@ -5,6 +5,5 @@ mod counts;
 
 pub use answers::lay_out;
 pub use answers::number_of;
-pub use blocks::block_in;
 pub use blocks::lay_out_block;
 pub use counts::lay_out_counts;

@@ -3,5 +3,7 @@ pub mod Magnitudes
 pub mod Ranges
 pub mod Tests
 pub mod Loops
+pub mod Sixteen
+pub mod Pairs
 pub mod Zeros
 pub mod Unique

@@ -1,12 +1,10 @@
 -- A loop that sums in a signed local, and products of signed locals, by the machine's bits. Assumes nothing.
-use mathlib.Core.Path.{_≡_, refl, sym, ap, _∙_, subst}
-use mathlib.Core.Bool.{Bool, true, false}
+use mathlib.Core.Path.{_≡_, sym, ap, _∙_, subst}
 use Prim.Native.Nat.{ℕ, _+_, _*_, _^_, _<_}
 use native.Mathlib.Nat.{lt-of-lt-of-le, suc-mul, mul-le-mul-right}
 use native.Mathlib.Numerals.{add-one}
 use native.Mathlib.Omega.{arith}
-use borrow.Author.Tests.{eqb-true, eqb-false}
-use lib.Dec.{T, leb, ltb, eqb, leb→le}
+use lib.Dec.{T, leb, ltb, leb→le}
 use lib.IntN.{ℤ, pos, _+ℤ_, _*ℤ_}
 use lib.Pow.{pow-pos}
 use lib.Signed.{mag}
@@ -14,10 +12,9 @@ use mir.Syntax.{Width}
 use mir.Val.{SFits, hbits, toZ, ofZ}
 use mir.ValLaws.{toZ-ofZ, toZ-pos}
 use Rattle.numbers.proofs.Signed.{read-is}
-use Rattle.dots_activation.specs.Whole.{sumℤ, Within, eqZ}
-use Rattle.dots_activation.proofs.Magnitudes.{within, pos-within, add-within, mul-within, fits-within}
+use Rattle.dots_activation.specs.Whole.{sumℤ, Within}
+use Rattle.dots_activation.proofs.Magnitudes.{within, pos-within, add-within, mul-within, fits-within, within-width}
 use Rattle.dots_activation.proofs.Ranges.{sum-more}
-use Rattle.dots_activation.proofs.Tests.{eqZ-same, eqZ-not}
 
 -- ---- the local whose bits are s holds the sum of the first k terms, each of them within B
 
@@ -63,6 +60,9 @@ module _ (w w′ : Width) (z : ℤ) (p : mag z < 2 ^ hbits w) (t : T (leb (2 ^ h
   pub wide-is : toZ w′ (ofZ w′ (toZ w (ofZ w z))) ≡ z
   wide-is = toZ-ofZ w′ (toZ w (ofZ w z)) wide-fits ∙ read-is w z p
 
+  pub wide-within : Within (2 ^ hbits w) (toZ w′ (ofZ w′ (toZ w (ofZ w z))))
+  wide-within = subst (Within (2 ^ hbits w)) (sym wide-is) (within-width w z p)
+
 -- ---- the product of two locals that hold x and y
 
 module _ (w : Width) {p q x y : ℤ} {A B : ℕ} (e : p ≡ x) (f : q ≡ y) (a : Within A x) (b : Within B y) (t : T (ltb (A * B) (2 ^ hbits w))) where
@@ -86,11 +86,11 @@ module _ (w : Width) {p q x y : ℤ} {A B : ℕ} (e : p ≡ x) (f : q ≡ y) (a 
       let r = toZ-ofZ w (p +ℤ q) sum-fits in
       (r ∙ ap (λ (z : ℤ). z +ℤ q) e ∙ ap (λ (z : ℤ). x +ℤ z) f, subst (Within (A + B)) (sym r) (add-within a b))
 
--- ---- the same bits, the same number
+-- ---- the sum of two elements x and y, as they are read
 
-pub bits-same : (w : Width) (a b : ℤ) → SFits w a → SFits w b → eqb (ofZ w a) (ofZ w b) ≡ eqZ a b
-bits-same w a b p q = by (eqb (ofZ w a) (ofZ w b)) refl
-  where
-    by : (t : Bool) → eqb (ofZ w a) (ofZ w b) ≡ t → t ≡ eqZ a b
-    by true e = let k : a ≡ b = sym (toZ-ofZ w a p) ∙ ap (toZ w) (eqb-true (ofZ w a) (ofZ w b) e) ∙ toZ-ofZ w b q in sym (ap (eqZ a) (sym k) ∙ eqZ-same a)
-    by false e = sym (eqZ-not a b (λ k. eqb-false (ofZ w a) (ofZ w b) e (ap (ofZ w) k)))
+module _ (w : Width) {x y : ℤ} {A B : ℕ} (p : mag x < 2 ^ hbits w) (q : mag y < 2 ^ hbits w) (a : Within A x) (b : Within B y) (t : T (ltb (A + B) (2 ^ hbits w))) where
+  pub both-fit : SFits w (toZ w (ofZ w x) +ℤ toZ w (ofZ w y))
+  both-fit = rw (read-is w x p, read-is w y q) (fits-within (add-within a b) t)
+
+  pub both-are : toZ w (ofZ w (toZ w (ofZ w x) +ℤ toZ w (ofZ w y))) ≡ x +ℤ y
+  both-are = toZ-ofZ w (toZ w (ofZ w x) +ℤ toZ w (ofZ w y)) both-fit ∙ ap (λ (z : ℤ). z +ℤ toZ w (ofZ w y)) (read-is w x p) ∙ ap (λ (z : ℤ). x +ℤ z) (read-is w y q)

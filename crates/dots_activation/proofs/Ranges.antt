@@ -63,6 +63,12 @@ unfolding sumℤ
 sum-zero f zero h = refl
 sum-zero f (suc k) h = ap (λ x. x +ℤ f k) (sum-zero f k (λ i p. h i (omega arith))) ∙ ap (λ x. pos 0 +ℤ x) (h k (omega arith))
 
+-- a sum of sums, the other way round
+pub sum-swap : (f : ℕ → ℕ → ℤ) (m n : ℕ) → sumℤ (λ i. sumℤ (f i) n) m ≡ sumℤ (λ j. sumℤ (λ i. f i j) m) n
+unfolding sumℤ
+sum-swap f m zero = sum-zero (λ i. sumℤ (f i) 0) m (λ i p. refl)
+sum-swap f m (suc n) = sum-both (λ i. sumℤ (f i) n) (λ i. f i n) m ∙ ap (λ x. x +ℤ sumℤ (λ i. f i n) m) (sum-swap f m n)
+
 -- a sum whose terms are 0 from n on stops there
 pub sum-cut : (f : ℕ → ℤ) (n N : ℕ) → n ≤ N → ((i : ℕ) → n ≤ i → i < N → f i ≡ pos 0) → sumℤ f N ≡ sumℤ f n
 sum-cut f n N h e =

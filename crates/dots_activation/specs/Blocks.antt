@@ -31,10 +31,13 @@ sumOf32 qs j = sumℤ (λ (l : ℕ). elem qs (32 * j + l)) 32
 abbrev pub sumsOf : List ℤ → List ℤ
 sumsOf qs = table (sumOf32 qs) 8
 
--- An activation block has one float scale, 256 signed quants and eight sums of 32: the block of a scale and its quants
--- ..
+-- An activation block has one float scale, 256 signed quants and eight sums of 32: the block of these three ..
+abbrev pub blockIn : Float → List ℤ → List ℤ → Q8Block
+blockIn d qs bsums = record { d = d; qs = qs; bsums = bsums }
+
+-- .. of a scale and its quants ..
 abbrev pub blockWith : Float → List ℤ → Q8Block
-blockWith d qs = record { d = d; qs = qs; bsums = sumsOf qs }
+blockWith d qs = blockIn d qs (sumsOf qs)
 
 -- .. and of at most 256 readings.
 unfoldable pub blockOf : List Float → Q8Block
@@ -51,15 +54,15 @@ quantizedSays r = orElse (checkSays (r .checked)) (value (r .block))
 -- the block that is answered: beside a refusal it has nothing but zeros
 abbrev pub blockSaid : Said Q8Block → Q8Block
 blockSaid (value b) = b
-blockSaid (refused why) = record { d = nought; qs = replicate 256 (pos 0); bsums = replicate 8 (pos 0) }
+blockSaid (refused why) = blockIn nought (replicate 256 (pos 0)) (replicate 8 (pos 0))
 
--- sum j of a block is the sum of its 32
-abbrev pub rightAt : Q8Block → ℕ → Bool
-rightAt b j = eqZ (sumOf32 (b .qs) j) (elem (b .bsums) j)
+-- sum j is the sum of its 32 quants
+abbrev pub rightAt : List ℤ → List ℤ → ℕ → Bool
+rightAt qs sums j = eqZ (sumOf32 qs j) (elem sums j)
 
 -- a block's sums are the sums of its 32s
-unfoldable pub sumsRight : Q8Block → Bool
-sumsRight b = every (rightAt b) 8
+unfoldable pub sumsRight : List ℤ → List ℤ → Bool
+sumsRight qs sums = every (rightAt qs sums) 8
 
 -- each of eight sums is at most 4,096 in size, as a sum of 32 signed bytes is
 pub record SmallSums (sums : List ℤ) : Type 0 where

@@ -1,3 +1,4 @@
 -- What an activation block is.
 pub mod Whole
+pub mod Inner
 pub mod Blocks

@@ -1,14 +1,14 @@
 // The activation block: how it is made of readings, and whether its sums are the sums of its 32s.
 use refusals::Check;
 ghost use mathlib.Core.Path.{_≡_};
-ghost use Prim.Native.Nat.{_≤_, _<_};
+ghost use Prim.Native.Nat.{_+_, _≤_, _<_};
 ghost use mathlib.Core.Bool.{true};
-ghost use lib.Dec.{leb};
-ghost use lib.IntN.{natAbs};
+ghost use lib.IntN.{_+ℤ_};
 ghost use lib.ListN.{length};
 ghost use Rattle.memory.specs.Lists.{table};
 ghost use Rattle.dots_activation.specs.Whole.{elem, Within};
-ghost use Rattle.dots_activation.specs.Blocks.{quantAt, sumOf32, sumsOf, rightAt, sumsRight, SmallSums};
+ghost use Rattle.dots_activation.specs.Inner.{pairOf, PairsWithin, sumOfPairs};
+ghost use Rattle.dots_activation.specs.Blocks.{quantAt, sumsOf, sumsRight, SmallSums};
 ghost use Rattle.dots_activation.specs.Blocks.{blockWith, blockOf, blockSays, quantizedSays, blockSaid};
 
 // One float scale, 256 signed quants and eight sums of 32. It is made by `block_with` and read by the block dots.
@@ -25,15 +25,43 @@ pub struct Quantized {
     pub block: Q8Block,
 }
 
-// The sum of the 32 quants of sub-block j, at most 4,096 in size.
-fn sum_of_32(qs: &[i8; 256], j: usize) -> i16
-    requires { ⌜ j < 8 ⌝ }
-    ensures { λ r. ⌜ (r ≡ sumOf32 (now (qs .entry)) j) × Within 4096 r ⌝ }
+// The sum of quants i and 16 + i, in 16 bits.
+fn pair(qs: &[i8; 256], i: usize) -> i16
+    requires { ⌜ i < 240 ⌝ }
+    ensures { λ r. ⌜ (r ≡ elem (now (qs .entry)) i +ℤ elem (now (qs .entry)) (16 + i)) × Within 256 r ⌝ }
 {
-    let from = 32 * j;
+    qs[i] as i16 + qs[16 + i] as i16
+}
+
+// The quants in pairs, the two halves of each sub-block side by side. One pair of each sub-block a turn: eight streams,
+// which are vectors.
+fn pairs(qs: &[i8; 256]) -> [i16; 128]
+    ensures { λ r. ⌜ (r ≡ table (pairOf (elem (now (qs .entry)))) 128) × PairsWithin 256 r ⌝ }
+{
+    let mut t = [0i16; 128];
+    for l in 0..16usize {
+        t[l] = pair(qs, l);
+        t[16 + l] = pair(qs, 32 + l);
+        t[32 + l] = pair(qs, 64 + l);
+        t[48 + l] = pair(qs, 96 + l);
+        t[64 + l] = pair(qs, 128 + l);
+        t[80 + l] = pair(qs, 160 + l);
+        t[96 + l] = pair(qs, 192 + l);
+        t[112 + l] = pair(qs, 224 + l);
+    }
+    t
+}
+
+// The sum of the 16 pairs of sub-block j, at most 4,096 in size.
+fn sum_of_32(pairs: &[i16; 128], j: usize) -> i16
+    requires { ⌜ PairsWithin 256 (now pairs) × (j < 8) ⌝ }
+    ensures { λ r. ⌜ (r ≡ sumOfPairs (now (pairs .entry)) j) × Within 4096 r ⌝ }
+{
+    let low = 16 * j;
+    let high = low + 8;
     let mut s: i16 = 0;
-    for l in 0..32usize {
-        s += qs[from + l] as i16;
+    for l in 0..8usize {
+        s += pairs[low + l] + pairs[high + l];
     }
     s
 }
@@ -41,41 +69,22 @@ fn sum_of_32(qs: &[i8; 256], j: usize) -> i16
 fn sums_of(qs: &[i8; 256]) -> [i32; 8]
     ensures { λ r. ⌜ r ≡ sumsOf (now (qs .entry)) ⌝ }
 {
+    let t = pairs(qs);
     let mut sums = [0i32; 8];
     for j in 0..8usize {
-        sums[j] = sum_of_32(qs, j) as i32;
+        sums[j] = sum_of_32(&t, j) as i32;
     }
     sums
 }
 
-// Whether s is at most 4,096 in size, as a sum of 32 quants is.
-fn small_sum(s: i32) -> bool
-    ensures { λ r. ⌜ r ≡ leb (natAbs s) 4096 ⌝ }
+// Whether the eight sums are the sums of the quants' 32s.
+pub fn sums_right(qs: &[i8; 256], bsums: &[i32; 8]) -> bool
+    ensures { λ r. ⌜ (r ≡ sumsRight (now (qs .entry)) (now (bsums .entry)))
+        × (r ≡ true → SmallSums (now (bsums .entry))) ⌝ }
 {
-    if s < -4096 { false } else { s <= 4096 }
-}
-
-// Whether sum j is the sum of its 32. A claim that is small is compared in 16 bits, where a vector holds twice as many
-// sums.
-fn sum_right(block: Q8Block, j: usize) -> bool
-    requires { ⌜ j < 8 ⌝ }
-    ensures { λ r. ⌜ (r ≡ rightAt block j) × (r ≡ true → Within 4096 (elem (block .bsums) j)) ⌝ }
-{
-    let sum = sum_of_32(&block.qs, j);
-    let claim = block.bsums[j];
-    if small_sum(claim) {
-        sum == claim as i16
-    } else {
-        false
-    }
-}
-
-// Whether the block's sums are the sums of its 32s.
-pub fn sums_right(block: Q8Block) -> bool
-    ensures { λ r. ⌜ (r ≡ sumsRight block) × (r ≡ true → SmallSums (block .bsums)) ⌝ }
-{
+    let t = pairs(qs);
     for j in 0..8usize {
-        if !sum_right(block, j) {
+        if sum_of_32(&t, j) as i32 != bsums[j] {
             return false;
         }
     }

@@ -12,6 +12,7 @@ use lib.ListN.{getD, length}
 use lib.Ieee.{Float, nan, binary32, ofBits, le, add, mul}
 use mir.Syntax.{w32}
 use mir.Val.{SFits}
+use Rattle.memory.specs.Lists.{table}
 use Rattle.memory.proofs.Filled.{getD-table}
 use Rattle.memory.proofs.Every.{every-all}
 use Rattle.numbers.specs.Fields.{signed}
@@ -22,11 +23,13 @@ use Rattle.layouts.specs.K.{scaleByte, scaleQ4K, quantQ4K, scaleQ6K, quantQ6K, 
 use Rattle.layouts.specs.declared.format.FormatK.{FormatK}
 use Rattle.layouts.specs.declared.format.FormatK.the-variants.{Q4K, Q6K}
 use Rattle.dots_activation.specs.Whole.{elem, eqZ, Within}
+use Rattle.dots_integer.specs.Inner.{FiveBits}
 use Rattle.dots_integer.specs.Dots.{weighedAt, wholeSum}
 use Rattle.dots_activation.specs.Blocks.{quantAt, quantsOf, sumOf32, rightAt, blockOf, sumsRight, SmallSums}
 use Rattle.dots_activation.proofs.Magnitudes.{within, pos-within, mul-within, fits-within}
 use Rattle.dots_activation.proofs.Ranges.{sum-within}
 use Rattle.dots_activation.proofs.Tests.{eqZ-same}
+use Rattle.dots_integer.proofs.Runs.{table-at}
 
 -- ---- a block of our quantizer
 
@@ -69,9 +72,9 @@ module _ (xs : List Float) where
   }
 
   -- .. and they are the sums of their 32s
-  pub sums-right : sumsRight (blockOf xs) ≡ true
+  pub sums-right : sumsRight (blockOf xs .qs) (blockOf xs .bsums) ≡ true
   unfolding sumsRight blockOf
-  sums-right = every-all (rightAt (blockOf xs)) 8 (λ j h. ap (eqZ (sumOf32 (quantsOf xs) j)) (getD-table (sumOf32 (quantsOf xs)) 8 j (pos 0) h) ∙ eqZ-same (sumOf32 (quantsOf xs) j))
+  sums-right = every-all (rightAt (blockOf xs .qs) (blockOf xs .bsums)) 8 (λ j h. ap (eqZ (sumOf32 (quantsOf xs) j)) (getD-table (sumOf32 (quantsOf xs)) 8 j (pos 0) h) ∙ eqZ-same (sumOf32 (quantsOf xs) j))
 
 -- ---- a packed block's scales and quants
 
@@ -115,6 +118,10 @@ module _ (w : List ℕ) (bytes : (i : ℕ) → getD w i 0 < 256) where
   quant-q4k : (i : ℕ) → quantQ4K w i ≤ 15
   unfolding quantQ4K
   quant-q4k i = nibble-small (getD w (16 + (32 * (i / 64) + i % 32)) 0) (i / 32 % 2) (bytes (16 + (32 * (i / 64) + i % 32)))
+
+  -- Q4_K's quants, as they are laid out
+  pub five-bits : (q : List ℕ) → q ≡ table (quantQ4K w) 256 → FiveBits q
+  five-bits q e = record { small = λ i h. omega (arith, table-at (quantQ4K w) 0 e i h, quant-q4k i) }
 
   scale-q6k : (e : ℕ) → Within 128 (scaleQ6K w e)
   unfolding scaleQ6K

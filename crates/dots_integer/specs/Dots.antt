@@ -46,8 +46,8 @@ abbrev pub dotWith : FormatK → List ℕ → Q8Block → ℕ → Float
 dotWith f w b n = blockDot f w (b .d) (b .qs) (b .bsums) n
 
 -- a format with minimums uses the sums, which then have to be the sums of their 32s
-abbrev pub sumsServe : FormatK → Q8Block → Bool
-sumsServe f b = cond (hasMinimums f) (sumsRight b) true
+abbrev pub sumsServe : FormatK → List ℤ → List ℤ → Bool
+sumsServe f qs sums = cond (hasMinimums f) (sumsRight qs sums) true
 
 -- `dot_q4k_q8_block`, `dot_q6k_q8_block`: fewer weights than needed; sums that aren't the sums of their 32s; and
 -- otherwise its formula, also at n = 0. A block dot needs one whole block and takes n above 256 as 256; surplus weights
@@ -55,5 +55,5 @@ sumsServe f b = cond (hasMinimums f) (sumsRight b) true
 unfoldable pub blockDotSays : FormatK → List ℕ → Q8Block → ℕ → Said Float
 blockDotSays f w b n =
     given (no 3) (ltb (length w) (bytesK f))
-    (given (no 7) (not (sumsServe f b))
+    (given (no 7) (not (sumsServe f (b .qs) (b .bsums)))
     (value (dotWith f (take (bytesK f) w) b (min n 256))))

@@ -1,2 +1,3 @@
 -- What the dots over activation blocks say.
+pub mod Inner
 pub mod Dots

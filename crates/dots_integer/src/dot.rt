@@ -19,8 +19,9 @@ ghost use Rattle.numbers.specs.Fields.{le16};
 ghost use Rattle.layouts.specs.Formats.{bytesK, hasMinimums};
 ghost use Rattle.layouts.specs.K.{dOf};
 ghost use Rattle.dots_activation.specs.Whole.{elem, sumℤ};
-ghost use Rattle.dots_activation.specs.Blocks.{SmallSums};
-ghost use Rattle.dots_integer.specs.Dots.{weighedAt, scaledSum, scaledDot, blockDot, dotWith};
+ghost use Rattle.dots_activation.specs.Blocks.{SmallSums, blockIn};
+ghost use Rattle.dots_integer.specs.Inner.{FiveBits};
+ghost use Rattle.dots_integer.specs.Dots.{weighedAt, scaledSum, scaledDot, blockDot};
 ghost use Rattle.dots_integer.specs.Dots.{sumsServe, blockDotSays};
 
 // The f16 field at i.
@@ -31,15 +32,19 @@ fn half_at(w: &[u8], i: usize) -> f32
     halves::f16_to_f32(numbers::le_u16(w[i], w[i + 1]))
 }
 
-// The dot of a block with minimums, whose quants are q.
+// The dot of a block with minimums, whose quants are q. d and dmin are widened before the sums: behind them the
+// branches of the widening would part the sums' loads from their arithmetic.
 fn dot_of_sub_blocks(w: &[u8], q: &[u8; 256], d: f32, qs: &[i8], sums: &[i32]) -> f32
-    requires { ⌜ (16 ≤ length (now w)) × (length (now qs) ≡ 256) × (length (now sums) ≡ 8) × SmallSums (now sums) ⌝ }
+    requires { ⌜ (16 ≤ length (now w)) × FiveBits (now q) × (length (now qs) ≡ 256) × (length (now sums) ≡ 8)
+        × SmallSums (now sums) ⌝ }
     ensures { λ r. ⌜ r ≡ scaledDot FormatK.Q4K (now (w .entry)) d (now (sums .entry))
         (sumℤ (weighedAt FormatK.Q4K (now (w .entry)) (λ i. pos (getD (now (q .entry)) i 0)) (now (qs .entry))) 256) ⌝ }
 {
-    let a = numbers::whole_to_f32(sum_by_sub_blocks(w, q, qs));
+    let scale = half_at(w, 0) * d;
+    let minimum = half_at(w, 2) * d;
     let m = numbers::whole_to_f32(minimum_sum(w, sums));
-    half_at(w, 0) * d * a - half_at(w, 2) * d * m
+    let a = numbers::whole_to_f32(sum_by_sub_blocks(w, q, qs));
+    scale * a - minimum * m
 }
 
 // The dot of a Q6_K block, whose quants are q. It looks at no sums.
@@ -48,8 +53,8 @@ fn dot_of_runs(w: &[u8], q: &[i8; 256], d: f32, qs: &[i8]) -> f32
     ensures { λ r. ⌜ r ≡ scaledSum (dOf FormatK.Q6K (now (w .entry))) d
         (sumℤ (weighedAt FormatK.Q6K (now (w .entry)) (elem (now (q .entry))) (now (qs .entry))) 256) ⌝ }
 {
-    let b = numbers::whole_to_f32(sum_by_runs(w, q, qs));
-    half_at(w, 208) * d * b
+    let scale = half_at(w, 208) * d;
+    scale * numbers::whole_to_f32(sum_by_runs(w, q, qs))
 }
 
 // The dot of a packed block and an activation block, its scale, its 256 quants and its eight sums, for callers that
@@ -71,59 +76,72 @@ pub fn block_dot(format: FormatK, w: &[u8], d: f32, qs: &[i8], sums: &[i32]) -> 
     }
 }
 
-// The same over the places below n.
-pub fn block_dot_below(format: FormatK, w: &[u8], xq: Q8Block, n: usize) -> f32
-    requires { ⌜ (length (now w) ≡ bytesK format) × (hasMinimums format ≡ true → SmallSums (xq .bsums)) × (n ≤ 256) ⌝ }
-    ensures { λ r. ⌜ r ≡ dotWith format (now (w .entry)) xq n ⌝ }
+// The same over the places below n, n above 256 taken as 256. Only a block that ends within is cut.
+pub fn block_dot_below(
+    format: FormatK,
+    w: &[u8],
+    d: f32,
+    qs: &[i8; 256],
+    sums: &[i32; 8],
+    n: usize,
+) -> f32
+    requires { ⌜ (length (now w) ≡ bytesK format) × (hasMinimums format ≡ true → SmallSums (now sums)) ⌝ }
+    ensures { λ r. ⌜ r ≡ blockDot format (now (w .entry)) d (now (qs .entry)) (now (sums .entry)) (min n 256) ⌝ }
 {
-    let qs = xq.qs;
-    let below = cut(qs, n);
-    let sums = xq.bsums;
-    block_dot(format, w, xq.d, &below, &sums)
+    if n >= 256 {
+        return block_dot(format, w, d, qs, sums);
+    }
+    let all = *qs;
+    let below = cut(all, n);
+    block_dot(format, w, d, &below, sums)
 }
 
-// Whether the block's sums serve the format: one without minimums looks at no sums.
-fn sums_serve(format: FormatK, xq: Q8Block) -> bool
-    ensures { λ r. ⌜ (r ≡ sumsServe format xq)
-        × (r ≡ true → hasMinimums format ≡ true → SmallSums (xq .bsums)) ⌝ }
+// Whether the sums serve the format: one without minimums looks at no sums.
+fn sums_serve(format: FormatK, qs: &[i8; 256], sums: &[i32; 8]) -> bool
+    ensures { λ r. ⌜ (r ≡ sumsServe format (now (qs .entry)) (now (sums .entry)))
+        × (r ≡ true → hasMinimums format ≡ true → SmallSums (now (sums .entry))) ⌝ }
 {
     match format {
-        FormatK::Q4K => sums_right(xq),
+        FormatK::Q4K => sums_right(qs, sums),
         FormatK::Q6K => true,
     }
 }
 
-// n, and above 256 as 256.
-fn at_most_256(n: usize) -> usize
-    ensures { λ r. ⌜ r ≡ min n 256 ⌝ }
-{
-    if n < 256 { n } else { 256 }
-}
-
 // The dot of the first block of w and an activation block, n above 256 taken as 256. Refuses 3 and 7, in this order.
-fn first_dot(format: FormatK, w: &[u8], xq: Q8Block, n: usize) -> Answer
-    ensures { λ r. ⌜ saidBy r ≡ blockDotSays format (now (w .entry)) xq n ⌝ }
+// The block's quants and sums are lent: a block by value would be copied.
+pub fn first_dot(
+    format: FormatK,
+    w: &[u8],
+    d: f32,
+    qs: &[i8; 256],
+    sums: &[i32; 8],
+    n: usize,
+) -> Answer
+    ensures { λ r. ⌜ saidBy r
+        ≡ blockDotSays format (now (w .entry)) (blockIn d (now (qs .entry)) (now (sums .entry))) n ⌝ }
 {
     let size = layouts::block_bytes(Format::OfK(format));
     if w.len() < size {
         return Answer::Refused(refusals::WEIGHTS_SHORT);
     }
-    if !sums_serve(format, xq) {
+    if !sums_serve(format, qs, sums) {
         return Answer::Refused(refusals::WRONG_SUMS);
     }
-    Answer::Value(block_dot_below(format, &w[..size], xq, at_most_256(n)))
+    Answer::Value(block_dot_below(format, &w[..size], d, qs, sums, n))
 }
 
 // The dot of a Q4_K block and an activation block. Refuses 3 and 7, in this order.
 pub fn dot_q4k_q8_block(w: &[u8], xq: Q8Block, n: usize) -> Answer
     ensures { λ r. ⌜ saidBy r ≡ blockDotSays FormatK.Q4K (now (w .entry)) xq n ⌝ }
 {
-    first_dot(FormatK::Q4K, w, xq, n)
+    let sums = xq.bsums;
+    first_dot(FormatK::Q4K, w, xq.d, &xq.qs, &sums, n)
 }
 
 // The dot of a Q6_K block and an activation block. Refuses 3.
 pub fn dot_q6k_q8_block(w: &[u8], xq: Q8Block, n: usize) -> Answer
     ensures { λ r. ⌜ saidBy r ≡ blockDotSays FormatK.Q6K (now (w .entry)) xq n ⌝ }
 {
-    first_dot(FormatK::Q6K, w, xq, n)
+    let sums = xq.bsums;
+    first_dot(FormatK::Q6K, w, xq.d, &xq.qs, &sums, n)
 }

@@ -1,7 +1,7 @@
 -- The dots of a row's blocks in an array of 512, and their tree. Assumes nothing.
 use mathlib.Core.Path.{_≡_, ap, _∙_}
 use mathlib.Core.List.{List}
-use Prim.Native.Nat.{ℕ, _+_, _-_, _*_, _≤_, _<_}
+use Prim.Native.Nat.{ℕ, _+_, _-_, _*_, _≤_, _<_, min}
 use native.Mathlib.Omega.{arith}
 use lib.ListN.{length, take, drop, set}
 use lib.Seq.{take-at}
@@ -21,10 +21,11 @@ use Rattle.dots_integer_row.specs.Rows.{blockAt, integerRow}
 module _ (f : FormatK) (x : List Float) (w : List ℕ) (n : ℕ) where
   -- the dot of the part of the weights that is block b and the block q of the part of the readings up to e
   pub block-is : (b e size : ℕ) (q : Q8Block) → size ≡ bytesK f → e ≡ 256 * b + stretchLength 256 n b → q ≡ blockOf (take (e - 256 * b) (drop (256 * b) x))
-      → dotWith f (take (b * size + size - b * size) (drop (b * size) w)) q (e - 256 * b) ≡ blockAt f x w n b
+      → dotWith f (take (b * size + size - b * size) (drop (b * size) w)) q (min (e - 256 * b) 256) ≡ blockAt f x w n b
   block-is b e size q s h k =
       let readings : e - 256 * b ≡ stretchLength 256 n b = omega arith in
-      rw (k, lent-part w b size (bytesK f) s, readings)
+      let places : min (stretchLength 256 n b) 256 ≡ stretchLength 256 n b = omega arith in
+      rw (k, lent-part w b size (bytesK f) s, readings, places)
 
   -- after b of them the array, which held old, is dots
   abbrev pub Dots : List Float → List Float → ℕ → Type 0

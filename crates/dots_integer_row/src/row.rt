@@ -47,7 +47,9 @@ fn integer_row(format: FormatK, x: &[f32], w: &[u8], n: usize) -> f32
         let e = block_end(n, b);
         let from = b * size;
         let to = from + size;
-        dots[b] = block_dot_below(format, &w[from..to], quantized_block(&x[s..e]), e - s);
+        let block = quantized_block(&x[s..e]);
+        let sums = block.bsums;
+        dots[b] = block_dot_below(format, &w[from..to], block.d, &block.qs, &sums, e - s);
         b += 1;
     }
     sums_tree::canonical_combine(&mut dots[..blocks])

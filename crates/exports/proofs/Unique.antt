@@ -5,7 +5,7 @@ use denote.Ref.{now}
 use Rattle.refusals.proofs.Once.{OneResult, OneCall, same, both}
 use Rattle.stepped_shape.specs.Layer.{Memory, memory}
 use Rattle.stepped_shape.specs.Progress.{Ran, ran}
-use Rattle.c_answers.specs.Blocks.{blockIn}
+use Rattle.dots_activation.specs.Blocks.{blockIn}
 use Rattle.exports.proofs.activation_blocks.jambharrow_quantize_block_q8.Reads as quantize-block-q8
 use Rattle.exports.proofs.activation_blocks.jambharrow_dot_q4k_q8_block.Reads as dot-q4k-q8-block
 use Rattle.exports.proofs.activation_blocks.jambharrow_dot_q6k_q8_block.Reads as dot-q6k-q8-block

@@ -1,14 +1,12 @@
 // Activation blocks, and the integer dots over them.
-use c_answers::block_in;
 use c_answers::lay_out;
 use c_answers::lay_out_block;
 use layouts::FormatK;
 ghost use mathlib.Core.Path.{_≡_};
-ghost use Rattle.dots_activation.specs.Blocks.{blockSays};
+ghost use Rattle.dots_activation.specs.Blocks.{blockIn, blockSays};
 ghost use Rattle.dots_integer.specs.Dots.{blockDotSays};
 ghost use Rattle.dots_integer_row.specs.Rows.{integerSays};
 ghost use Rattle.c_answers.specs.Answers.{laidOut};
-ghost use Rattle.c_answers.specs.Blocks.{blockIn};
 
 // `dots_activation::quantize_block_q8`, for C.
 #[no_mangle]
@@ -40,7 +38,7 @@ pub extern "C" fn jambharrow_dot_q4k_q8_block(
         (now (value .entry)) ⌝ }
 {
     lay_out(
-        dots_integer::dot_q4k_q8_block(w, block_in(d, qs, bsums), n),
+        dots_integer::first_dot(FormatK::Q4K, w, d, qs, bsums, n),
         value,
     )
 }
@@ -60,7 +58,7 @@ pub extern "C" fn jambharrow_dot_q6k_q8_block(
         (now (value .entry)) ⌝ }
 {
     lay_out(
-        dots_integer::dot_q6k_q8_block(w, block_in(d, qs, bsums), n),
+        dots_integer::first_dot(FormatK::Q6K, w, d, qs, bsums, n),
         value,
     )
 }

@@ -1,3 +1,4 @@
 -- What several proofs share, here and above.
 pub mod Unique
 pub mod Signed
+pub mod Halves

@@ -10,9 +10,10 @@ pub fn magnitude_of(v: f32) -> f32
     if v < 0.0 { -v } else { v }
 }
 
-// The f32 nearest to n, and where two are as near the one whose last digit is even.
+// The f32 nearest to n, and where two are as near the one whose last digit is even. The upper half of n, which has its
+// sign, and the lower half are floats exactly, and so is the upper half times 2^16: only the sum rounds.
 pub fn whole_to_f32(n: i32) -> f32
     ensures { λ r. ⌜ r ≡ ofInt binary32 n ⌝ }
 {
-    std::num::nearest_i32_to_f32(n)
+    (n >> 16) as f32 * 65536.0 + (n & 0xffff) as f32
 }

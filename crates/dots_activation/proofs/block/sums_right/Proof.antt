@@ -1,34 +1,61 @@
 -- `block::sums_right` meets its contract: every sum passed is right. Assumes nothing.
-use mathlib.Core.Path.{_≡_, sym, _∙_}
+use mathlib.Core.Path.{_≡_, sym, ap, _∙_, subst}
 use mathlib.Core.Bool.{true, false≢true}
 use Prim.Native.Nat.{ℕ, _-_, _≤_, _<_}
 use native.Mathlib.Omega.{arith}
 use borrow.Author.Count.{below-none, below-more}
-use borrow.Author.Tests.{not-true, not-false}
+use mir.Syntax.{w16, w32}
+use mir.Val.{toZ, ofZ}
+use mir.ValLaws.{toZ-ofZ}
 use Rattle.memory.specs.Lists.{every}
 use Rattle.memory.proofs.Every.{every-none, every-more, every-not}
+use Rattle.numbers.proofs.Signed.{read-is}
 use Rattle.dots_activation.specs.Whole.{elem, Within}
-use Rattle.dots_activation.specs.Blocks.{rightAt, sumsRight}
+use Rattle.dots_activation.specs.Blocks.{sumOf32, rightAt, sumsRight}
+use Rattle.dots_activation.proofs.Magnitudes.{fits-within}
+use Rattle.dots_activation.proofs.Tests.{eqZ-same, eqZ-not}
+use Rattle.dots_activation.proofs.Pairs.{pairs-sum}
 use Rattle.dots_activation.proofs.block.sums_right.Statement.{statement}
 use Rattle.dots_activation.proofs.block.sums_right.Tie as tie
 
 abbrev Inv-loop : tie.InvT-loop
-Inv-loop block j₀ j = (j ≤ 8) × (every (rightAt block) j ≡ true) × ((k : ℕ) → k < j → Within 4096 (elem (block .bsums) k))
+Inv-loop qs bsums t j₀ j = (j ≤ 8) × (every (rightAt qs bsums) j ≡ true) × ((k : ℕ) → k < j → Within 4096 (elem bsums k))
 
 abbrev μ-loop : tie.MeasureT-loop
-μ-loop block j₀ j = 8 - j
+μ-loop qs bsums t j₀ j = 8 - j
+
+pairs-requires : tie.Need-pairs-requires Inv-loop μ-loop
+pairs-requires c κs = tt
 
 loop-holds : tie.Need-loop-holds Inv-loop μ-loop
 loop-holds c = (omega arith, every-none _, below-none _)
 
-sum-right-requires : tie.Need-sum-right-requires Inv-loop μ-loop
-sum-right-requires c κs = omega arith
+sum-of-32-requires : tie.Need-sum-of-32-requires Inv-loop μ-loop
+sum-of-32-requires c κs = (c .before .before .before .pairs .ensures .1, omega arith)
+
+cast-if1 : tie.Need-cast-if1 Inv-loop μ-loop
+cast-if1 c = rw (read-is w16 _ (c .sum-of-32 .ok)) (fits-within (c .sum-of-32 .ensures .1) tt)
+
+mul-if1 : tie.Need-mul-if1 Inv-loop μ-loop
+mul-if1 c = omega arith
+
+element-copy-out-if1 : tie.Need-element-copy-out-if1 Inv-loop μ-loop
+element-copy-out-if1 c = omega arith
+
+-- the turn's sum, as it is compared, and its claim
+sum-is : (c : tie.After-sum-of-32 Inv-loop μ-loop)
+    → let b = c .before .before .before in
+    toZ w16 (ofZ w16 (c .sum-of-32 .result)) ≡ sumOf32 (b .before .before .args .qs .now) (b .loop .j)
+sum-is c =
+    let b = c .before .before .before in
+    let t = b .before .pairs in
+    read-is w16 _ (c .sum-of-32 .ok) ∙ c .sum-of-32 .ensures .0 ∙ pairs-sum (elem (b .before .before .args .qs .now)) (t .result) (b .loop .j) (t .ensures .0) (omega arith)
 
 returns : tie.Need-returns Inv-loop μ-loop
 unfolding sumsRight
 returns c =
-    let r = c .before .sum-right in
-    (sym (every-not _ 8 (c .before .before .before .loop .j) (omega arith) (sym (r .ensures .0) ∙ not-true (r .result) (c .if1 .taken))), λ e. absurd (false≢true e))
+    let s = c .before .before in
+    (sym (every-not _ 8 (s .before .before .before .loop .j) (omega arith) (eqZ-not _ _ (λ e. c .if1 .taken (ap (ofZ w32) (sum-is s ∙ e))))), λ e. absurd (false≢true e))
 
 add-j : tie.Need-add-j Inv-loop μ-loop
 add-j c = omega arith
@@ -36,11 +63,21 @@ add-j c = omega arith
 loop-less : tie.Need-loop-less Inv-loop μ-loop
 loop-less c = omega arith
 
+-- the claim is the sum
+claimed : (c : tie.Else1 Inv-loop μ-loop)
+    → let b = c .before .before .before .before .before in
+    sumOf32 (b .before .before .args .qs .now) (b .loop .j) ≡ elem (b .before .before .args .bsums .now) (b .loop .j)
+claimed c =
+    let s = c .before .before in
+    sym (sum-is s) ∙ sym (toZ-ofZ w32 _ (cast-if1 s)) ∙ ap (toZ w32) (c .if1 .left) ∙ read-is w32 _ (c .before .if12 .given)
+
 loop-again : tie.Need-loop-again Inv-loop μ-loop
 loop-again c =
-    let l = c .before .before .before .loop in
-    let r = c .before .sum-right in
-    (omega arith, every-more _ _ (l .inv .1) (sym (r .ensures .0) ∙ not-false (r .result) (c .if1 .left)), below-more _ _ (l .inv .2) (r .ensures .1 (not-false (r .result) (c .if1 .left))))
+    let s = c .before .before in
+    let l = s .before .before .before .loop in
+    let r = s .sum-of-32 in
+    let e = claimed c in
+    (omega arith, every-more _ _ (l .inv .1) (rw e (eqZ-same (elem (s .before .before .before .before .before .args .bsums .now) (l .j)))), below-more _ _ (l .inv .2) (subst (Within 4096) (sym (read-is w16 _ (r .ok)) ∙ sum-is s ∙ e) (r .ensures .1)))
 
 returns-2 : tie.Need-returns-2 Inv-loop μ-loop
 unfolding sumsRight
@@ -55,8 +92,12 @@ sums-right-spec =
     (tie.spec
     Inv-loop
     μ-loop
+    pairs-requires
     loop-holds
-    sum-right-requires
+    sum-of-32-requires
+    cast-if1
+    mul-if1
+    element-copy-out-if1
     returns
     add-j
     loop-less

@@ -10,6 +10,7 @@ use Rattle.layouts.specs.declared.format.FormatK.the-variants.{Q4K, Q6K}
 use Rattle.dots_activation.specs.Whole.{elem}
 use Rattle.dots_integer.specs.Dots.{scaledDot, blockDot}
 use Rattle.dots_integer.proofs.Runs.{table-at, byteOf, laid-out}
+use Rattle.dots_integer.proofs.Bounds.{five-bits}
 use Rattle.dots_integer.proofs.dot.block_dot.Statement.{statement}
 use Rattle.dots_integer.proofs.dot.block_dot.Tie as tie
 
@@ -23,7 +24,10 @@ dot-of-sub-blocks-requires : tie.Need-dot-of-sub-blocks-requires
 dot-of-sub-blocks-requires c κs =
     let e = c .before .before .enum-told .given .1 in
     let p = c .before .before .before .before .before .pre in
-    (omega (arith, p .0 ∙ ap bytesK e), p .1, p .2, p .3 (ap hasMinimums e))
+    let q = c .before .quants-q4k in
+    let a = c .before .before .before .before .before .args in
+    let small = five-bits (a .w .now) (λ i. c .before .before .before .before .shared-slice-known .given i .fits) (q .result) (q .ensures) in
+    (omega (arith, p .0 ∙ ap bytesK e), small, p .1, p .2, p .3 (ap hasMinimums e))
 
 enum-told-2 : tie.Need-enum-told-2
 enum-told-2 c = search needs

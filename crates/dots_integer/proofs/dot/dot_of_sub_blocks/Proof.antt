@@ -7,40 +7,41 @@ use borrow.Author.Needs.{needs}
 use Rattle.dots_integer.proofs.dot.dot_of_sub_blocks.Statement.{statement}
 use Rattle.dots_integer.proofs.dot.dot_of_sub_blocks.Tie as tie
 
-sum-by-sub-blocks-requires : tie.Need-sum-by-sub-blocks-requires
-sum-by-sub-blocks-requires c κs = search needs
-
-whole-to-f32-requires : tie.Need-whole-to-f32-requires
-whole-to-f32-requires c κs = search needs
-
-minimum-sum-requires : tie.Need-minimum-sum-requires
-minimum-sum-requires c κs = search needs
-
-whole-to-f32-requires-2 : tie.Need-whole-to-f32-requires-2
-whole-to-f32-requires-2 c κs = search needs
-
 half-at-requires : tie.Need-half-at-requires
 half-at-requires c κs = search needs
 
 half-at-requires-2 : tie.Need-half-at-requires-2
 half-at-requires-2 c κs = search needs
 
+minimum-sum-requires : tie.Need-minimum-sum-requires
+minimum-sum-requires c κs = search needs
+
+whole-to-f32-requires : tie.Need-whole-to-f32-requires
+whole-to-f32-requires c κs = search needs
+
+sum-by-sub-blocks-requires : tie.Need-sum-by-sub-blocks-requires
+sum-by-sub-blocks-requires c κs = search needs
+
+whole-to-f32-requires-2 : tie.Need-whole-to-f32-requires-2
+whole-to-f32-requires-2 c κs = search needs
+
 returns : tie.Need-returns
 returns c =
-    let m = c .before .before in
-    let a = m .before .before in
-    let dx = a .before .before .before .args .d in
-    less-is (scaled-is dx (c .before .half-at .ensures) (a .whole-to-f32 .ensures) (read-is w32 _ (a .before .sum-by-sub-blocks .ok) ∙ a .before .sum-by-sub-blocks .ensures))
-    (scaled-is dx (c .half-at2 .ensures) (m .whole-to-f322 .ensures) (read-is w32 _ (m .before .minimum-sum .ok) ∙ m .before .minimum-sum .ensures))
+    let a = c .before in
+    let m = a .before in
+    let h = m .before .before in
+    let dx = h .before .before .before .args .d in
+    less-is (scaled-is dx (h .before .half-at .ensures) (c .whole-to-f322 .ensures) (read-is w32 _ (a .sum-by-sub-blocks .ok) ∙ a .sum-by-sub-blocks .ensures))
+    (scaled-is dx (h .half-at2 .ensures) (m .whole-to-f32 .ensures) (read-is w32 _ (m .before .minimum-sum .ok) ∙ m .before .minimum-sum .ensures))
 
 pub dot-of-sub-blocks-spec : {M : Type 1} → statement M
 dot-of-sub-blocks-spec =
     tie.close
     (tie.spec
-    sum-by-sub-blocks-requires
-    whole-to-f32-requires
-    minimum-sum-requires
-    whole-to-f32-requires-2
     half-at-requires
     half-at-requires-2
+    minimum-sum-requires
+    whole-to-f32-requires
+    sum-by-sub-blocks-requires
+    whole-to-f32-requires-2
     returns)

@@ -1,6 +1,6 @@
 -- `dot::first_dot` meets its contract. Assumes nothing.
 use mathlib.Core.Path.{sym, ap, _∙_}
-use Prim.Native.Nat.{ℕ}
+use Prim.Native.Nat.{ℕ, min}
 use native.Mathlib.Omega.{arith}
 use borrow.Author.Needs.{needs}
 use borrow.Author.Tests.{lt-ltb, le-ltb, not-false}
@@ -8,7 +8,7 @@ use lib.ListN.{take}
 use lib.Seq.{length-take-le}
 use Rattle.refusals.specs.Said.{value}
 use Rattle.refusals.proofs.Laws.{given-yes, given-no}
-use Rattle.dots_integer.specs.Dots.{dotWith, blockDotSays}
+use Rattle.dots_integer.specs.Dots.{blockDot, blockDotSays}
 use Rattle.dots_integer.proofs.dot.first_dot.Statement.{statement}
 use Rattle.dots_integer.proofs.dot.first_dot.Tie as tie
 
@@ -33,25 +33,20 @@ slice-aggregate-block-dot-below c =
     let b = c .before .before .before .before in
     sym (length-take-le (b .block-bytes .result) (b .before .before .args .w .now) (omega arith))
 
-at-most-256-requires : tie.Need-at-most-256-requires
-at-most-256-requires c κs = search needs
-
 block-dot-below-requires : tie.Need-block-dot-below-requires
 block-dot-below-requires c κs =
-    let i = c .before .before in
+    let i = c .before in
     let r = i .before .sums-serve in
     let size = i .before .before .before .block-bytes in
-    (length-take-le (size .result) (i .before .before .before .before .before .args .w .now) (omega arith) ∙ size .ensures, r .ensures .1 (not-false (r .result) (i .if2 .left)), omega arith)
+    (length-take-le (size .result) (i .before .before .before .before .before .args .w .now) (omega arith) ∙ size .ensures, r .ensures .1 (not-false (r .result) (i .if2 .left)))
 
 returns-3 : tie.Need-returns-3
 unfolding blockDotSays
 returns-3 c =
-    let i = c .before .before .before in
+    let i = c .before .before in
     let b = i .before .before .before in
     let a = b .before .before .args in
-    ap value (c .block-dot-below .ensures
-    ∙ ap (λ (k : ℕ). dotWith (a .format) (take k (a .w .now)) (a .xq) (c .before .at-most-256 .result)) (b .block-bytes .ensures)
-    ∙ ap (dotWith (a .format) _ (a .xq)) (c .before .at-most-256 .ensures))
+    ap value (c .block-dot-below .ensures ∙ ap (λ (k : ℕ). blockDot (a .format) (take k (a .w .now)) (a .d) (a .qs .now) (a .sums .now) (min (a .n) 256)) (b .block-bytes .ensures))
     ∙ sym (given-no _ _ _ (le-ltb _ _ (rw (b .block-bytes .ensures) at (i .before .before .if1 .left))) ∙ given-no _ _ _ (rw (i .before .sums-serve .ensures .0) at (i .if2 .left)))
 
 pub first-dot-spec : {M : Type 1} → statement M
@@ -63,6 +58,5 @@ first-dot-spec =
     sums-serve-requires
     returns-2
     slice-aggregate-block-dot-below
-    at-most-256-requires
     block-dot-below-requires
     returns-3)

@@ -20,12 +20,14 @@ enum-told-2 c = search needs
 returns : tie.Need-returns
 returns c =
     let r = c .sums-right .ensures in
-    (r .0 ∙ ap (λ (f : FormatK). sumsServe f (c .before .before .before .args .xq)) (sym (c .before .enum-told .given .1)), λ h _. r .1 h)
+    let a = c .before .before .before .args in
+    (r .0 ∙ ap (λ (f : FormatK). sumsServe f (a .qs .now) (a .sums .now)) (sym (c .before .enum-told .given .1)), λ h _. r .1 h)
 
 returns-2 : tie.Need-returns-2
 returns-2 c =
     let e = sym (c .enum-told2 .given .1) in
-    (ap (λ (f : FormatK). sumsServe f (c .before .before .args .xq)) e, λ _ h. absurd (false≢true (ap hasMinimums e ∙ h)))
+    let a = c .before .before .args in
+    (ap (λ (f : FormatK). sumsServe f (a .qs .now) (a .sums .now)) e, λ _ h. absurd (false≢true (ap hasMinimums e ∙ h)))
 
 pub sums-serve-spec : {M : Type 1} → statement M
 sums-serve-spec = tie.close (tie.spec enum-told sums-right-requires enum-told-2 returns returns-2)

@@ -53,15 +53,6 @@ mul-from c = omega (arith, inside c)
 add-to : tie.Need-add-to Inv-loop μ-loop
 add-to c = omega (arith, inside c)
 
-sub-block-dot-below : tie.Need-sub-block-dot-below Inv-loop μ-loop
-sub-block-dot-below c = omega (arith, inside c)
-
-part-block-dot-below-start : tie.Need-part-block-dot-below-start Inv-loop μ-loop
-part-block-dot-below-start c = omega (arith, inside c)
-
-part-block-dot-below-end : tie.Need-part-block-dot-below-end Inv-loop μ-loop
-part-block-dot-below-end c = omega (arith, inside c)
-
 mul-quantized-block : tie.Need-mul-quantized-block Inv-loop μ-loop
 mul-quantized-block c = omega arith
 
@@ -76,22 +67,32 @@ part-quantized-block-end c = omega arith
 
 quantized-block-requires : tie.Need-quantized-block-requires Inv-loop μ-loop
 quantized-block-requires c κs =
-    let b = c .before .before in
+    let b = c .before in
     let t = b .before .before in
     let s = 256 * t .loop .b in
     omega (arith, part-length (t .before .before .before .before .before .args .x .now) s (b .block-end .result - s) (b .block-end .result) (omega arith) (omega arith))
+
+sub-block-dot-below : tie.Need-sub-block-dot-below Inv-loop μ-loop
+sub-block-dot-below c = omega (arith, inside (c .before .before .before))
+
+part-block-dot-below-start : tie.Need-part-block-dot-below-start Inv-loop μ-loop
+part-block-dot-below-start c = omega (arith, inside (c .before .before .before))
+
+part-block-dot-below-end : tie.Need-part-block-dot-below-end Inv-loop μ-loop
+part-block-dot-below-end c = omega (arith, inside (c .before .before .before))
 
 sub-block-dot-below-2 : tie.Need-sub-block-dot-below-2 Inv-loop μ-loop
 sub-block-dot-below-2 c = omega arith
 
 block-dot-below-requires : tie.Need-block-dot-below-requires Inv-loop μ-loop
 block-dot-below-requires c κs =
-    let e = c .before .before .before in
+    let q = c .before .before .before .before .before in
+    let e = q .before .before in
     let t = e .before .before in
     let size = t .before .before .block-bytes in
     let a = t .before .before .before .before .before .args in
     let from = t .loop .b * size .result in
-    (part-length (a .w .now) from (size .result) (from + size .result) refl (inside e) ∙ size .ensures, λ _. subst (λ (b : Q8Block). SmallSums (b .bsums)) (sym (c .quantized-block .ensures)) (small-sums _), omega arith)
+    (part-length (a .w .now) from (size .result) (from + size .result) refl (inside e) ∙ size .ensures, λ _. subst (λ (b : Q8Block). SmallSums (b .bsums)) (sym (q .quantized-block .ensures)) (small-sums _))
 
 mul-dots : tie.Need-mul-dots Inv-loop μ-loop
 mul-dots c = omega arith
@@ -107,9 +108,10 @@ loop-less c = omega arith
 
 loop-again : tie.Need-loop-again Inv-loop μ-loop
 loop-again c =
-    let q = c .before .quantized-block in
-    let e = c .before .before .before .before .block-end in
-    let t = c .before .before .before .before .before .before in
+    let made = c .before .before .before .before .before .before in
+    let q = made .quantized-block in
+    let e = made .before .before .block-end in
+    let t = made .before .before .before .before in
     let size = t .before .before .block-bytes in
     let a = t .before .before .before .before .before .args in
     let v = c .block-dot-below .ensures ∙ block-is (a .format) (a .x .now) (a .w .now) (a .n) (t .loop .b) (e .result) (size .result) (q .result) (size .ensures) (e .ensures .0) (q .ensures) in
@@ -146,14 +148,14 @@ integer-row-spec =
     block-end-requires
     mul-from
     add-to
-    sub-block-dot-below
-    part-block-dot-below-start
-    part-block-dot-below-end
     mul-quantized-block
     sub-quantized-block
     part-quantized-block-start
     part-quantized-block-end
     quantized-block-requires
+    sub-block-dot-below
+    part-block-dot-below-start
+    part-block-dot-below-end
     sub-block-dot-below-2
     block-dot-below-requires
     mul-dots

@@ -3,11 +3,8 @@ use borrow.Author.Needs.{needs}
 use Rattle.exports.proofs.activation_blocks.jambharrow_dot_q4k_q8_block.Statement.{statement}
 use Rattle.exports.proofs.activation_blocks.jambharrow_dot_q4k_q8_block.Tie as tie
 
-block-in-requires : tie.Need-block-in-requires
-block-in-requires c κs = search needs
-
-dot-q4k-q8-block-requires : tie.Need-dot-q4k-q8-block-requires
-dot-q4k-q8-block-requires c κs = search needs
+first-dot-requires : tie.Need-first-dot-requires
+first-dot-requires c κs = search needs
 
 lay-out-requires : tie.Need-lay-out-requires
 lay-out-requires c κs = search needs
@@ -17,4 +14,4 @@ returns c = cc
 
 pub jambharrow-dot-q4k-q8-block-spec : {M : Type 1} → statement M
 jambharrow-dot-q4k-q8-block-spec =
-    tie.close (tie.spec block-in-requires dot-q4k-q8-block-requires lay-out-requires returns)
+    tie.close (tie.spec first-dot-requires lay-out-requires returns)

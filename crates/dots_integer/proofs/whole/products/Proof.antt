@@ -1,0 +1,220 @@
+-- `whole::products` meets its contract: in turn l the eight places l, 16 + l, .. are filled. Assumes nothing.
+use mathlib.Core.Path.{refl}
+use Prim.Native.Nat.{ℕ, _+_, _-_}
+use native.Mathlib.Omega.{arith}
+use lib.IntN.{ℤ, pos}
+use lib.ListN.{replicate}
+use Rattle.dots_activation.specs.Inner.{pairOf}
+use Rattle.dots_activation.proofs.Sixteen.{Streamed, streamed-none, streamed-more, streamed-all, pair-stored}
+use Rattle.dots_integer.specs.Inner.{productAt}
+use Rattle.dots_integer.proofs.whole.products.Statement.{statement}
+use Rattle.dots_integer.proofs.whole.products.Tie as tie
+
+abbrev Inv-loop : tie.InvT-loop
+Inv-loop q x p₀ l₀ p l = Streamed (pairOf (productAt q x)) 7936 p l
+
+abbrev μ-loop : tie.MeasureT-loop
+μ-loop q x p₀ l₀ p l = 16 - l
+
+loop-holds : tie.Need-loop-holds Inv-loop μ-loop
+loop-holds c = streamed-none (pairOf (productAt (c .args .q .now) (c .args .x .now))) 7936 (replicate 128 (pos 0)) refl
+
+products-at-requires : tie.Need-products-at-requires Inv-loop μ-loop
+products-at-requires c κs = let p = c .before .before .pre in (p .0, p .1, omega arith)
+
+mul-p : tie.Need-mul-p Inv-loop μ-loop
+mul-p c = omega arith
+
+array-set-from-p : tie.Need-array-set-from-p Inv-loop μ-loop
+array-set-from-p c = omega arith
+
+add-products-at : tie.Need-add-products-at Inv-loop μ-loop
+add-products-at c = omega arith
+
+products-at-requires-2 : tie.Need-products-at-requires-2 Inv-loop μ-loop
+products-at-requires-2 c κs = let p = c .before .before .before .pre in (p .0, p .1, omega arith)
+
+add-p : tie.Need-add-p Inv-loop μ-loop
+add-p c = omega arith
+
+mul-p-2 : tie.Need-mul-p-2 Inv-loop μ-loop
+mul-p-2 c = omega arith
+
+array-set-from-p-2 : tie.Need-array-set-from-p-2 Inv-loop μ-loop
+array-set-from-p-2 c = omega arith
+
+add-products-at-2 : tie.Need-add-products-at-2 Inv-loop μ-loop
+add-products-at-2 c = omega arith
+
+products-at-requires-3 : tie.Need-products-at-requires-3 Inv-loop μ-loop
+products-at-requires-3 c κs = let p = c .before .before .before .before .pre in (p .0, p .1, omega arith)
+
+add-p-2 : tie.Need-add-p-2 Inv-loop μ-loop
+add-p-2 c = omega arith
+
+mul-p-3 : tie.Need-mul-p-3 Inv-loop μ-loop
+mul-p-3 c = omega arith
+
+array-set-from-p-3 : tie.Need-array-set-from-p-3 Inv-loop μ-loop
+array-set-from-p-3 c = omega arith
+
+add-products-at-3 : tie.Need-add-products-at-3 Inv-loop μ-loop
+add-products-at-3 c = omega arith
+
+products-at-requires-4 : tie.Need-products-at-requires-4 Inv-loop μ-loop
+products-at-requires-4 c κs = let p = c .before .before .before .before .before .pre in (p .0, p .1, omega arith)
+
+add-p-3 : tie.Need-add-p-3 Inv-loop μ-loop
+add-p-3 c = omega arith
+
+mul-p-4 : tie.Need-mul-p-4 Inv-loop μ-loop
+mul-p-4 c = omega arith
+
+array-set-from-p-4 : tie.Need-array-set-from-p-4 Inv-loop μ-loop
+array-set-from-p-4 c = omega arith
+
+add-products-at-4 : tie.Need-add-products-at-4 Inv-loop μ-loop
+add-products-at-4 c = omega arith
+
+products-at-requires-5 : tie.Need-products-at-requires-5 Inv-loop μ-loop
+products-at-requires-5 c κs = let p = c .before .before .before .before .before .before .pre in (p .0, p .1, omega arith)
+
+add-p-4 : tie.Need-add-p-4 Inv-loop μ-loop
+add-p-4 c = omega arith
+
+mul-p-5 : tie.Need-mul-p-5 Inv-loop μ-loop
+mul-p-5 c = omega arith
+
+array-set-from-p-5 : tie.Need-array-set-from-p-5 Inv-loop μ-loop
+array-set-from-p-5 c = omega arith
+
+add-products-at-5 : tie.Need-add-products-at-5 Inv-loop μ-loop
+add-products-at-5 c = omega arith
+
+products-at-requires-6 : tie.Need-products-at-requires-6 Inv-loop μ-loop
+products-at-requires-6 c κs = let p = c .before .before .before .before .before .before .before .pre in (p .0, p .1, omega arith)
+
+add-p-5 : tie.Need-add-p-5 Inv-loop μ-loop
+add-p-5 c = omega arith
+
+mul-p-6 : tie.Need-mul-p-6 Inv-loop μ-loop
+mul-p-6 c = omega arith
+
+array-set-from-p-6 : tie.Need-array-set-from-p-6 Inv-loop μ-loop
+array-set-from-p-6 c = omega arith
+
+add-products-at-6 : tie.Need-add-products-at-6 Inv-loop μ-loop
+add-products-at-6 c = omega arith
+
+products-at-requires-7 : tie.Need-products-at-requires-7 Inv-loop μ-loop
+products-at-requires-7 c κs = let p = c .before .before .before .before .before .before .before .before .pre in (p .0, p .1, omega arith)
+
+add-p-6 : tie.Need-add-p-6 Inv-loop μ-loop
+add-p-6 c = omega arith
+
+mul-p-7 : tie.Need-mul-p-7 Inv-loop μ-loop
+mul-p-7 c = omega arith
+
+array-set-from-p-7 : tie.Need-array-set-from-p-7 Inv-loop μ-loop
+array-set-from-p-7 c = omega arith
+
+add-products-at-7 : tie.Need-add-products-at-7 Inv-loop μ-loop
+add-products-at-7 c = omega arith
+
+products-at-requires-8 : tie.Need-products-at-requires-8 Inv-loop μ-loop
+products-at-requires-8 c κs = let p = c .before .before .before .before .before .before .before .before .before .pre in (p .0, p .1, omega arith)
+
+add-p-7 : tie.Need-add-p-7 Inv-loop μ-loop
+add-p-7 c = omega arith
+
+mul-p-8 : tie.Need-mul-p-8 Inv-loop μ-loop
+mul-p-8 c = omega arith
+
+array-set-from-p-8 : tie.Need-array-set-from-p-8 Inv-loop μ-loop
+array-set-from-p-8 c = omega arith
+
+add-l : tie.Need-add-l Inv-loop μ-loop
+add-l c = omega arith
+
+loop-less : tie.Need-loop-less Inv-loop μ-loop
+loop-less c = omega arith
+
+loop-again : tie.Need-loop-again Inv-loop μ-loop
+loop-again c =
+    let c₇ = c .before in
+    let c₆ = c₇ .before in
+    let c₅ = c₆ .before in
+    let c₄ = c₅ .before in
+    let c₃ = c₄ .before in
+    let c₂ = c₃ .before in
+    let c₁ = c₂ .before in
+    let d = c₁ .before .before in
+    let l = d .loop .l in
+    let f : ℕ → ℤ = productAt (d .before .args .q .now) (d .before .args .x .now) in
+    streamed-more (pairOf f) 7936 (d .loop .p) l (omega arith)
+    (pair-stored f l l (c₁ .products-at .ok) (c₁ .products-at .ensures) (omega arith))
+    (pair-stored f (16 + l) (32 + l) (c₂ .products-at2 .ok) (c₂ .products-at2 .ensures) (omega arith))
+    (pair-stored f (32 + l) (64 + l) (c₃ .products-at3 .ok) (c₃ .products-at3 .ensures) (omega arith))
+    (pair-stored f (48 + l) (96 + l) (c₄ .products-at4 .ok) (c₄ .products-at4 .ensures) (omega arith))
+    (pair-stored f (64 + l) (128 + l) (c₅ .products-at5 .ok) (c₅ .products-at5 .ensures) (omega arith))
+    (pair-stored f (80 + l) (160 + l) (c₆ .products-at6 .ok) (c₆ .products-at6 .ensures) (omega arith))
+    (pair-stored f (96 + l) (192 + l) (c₇ .products-at7 .ok) (c₇ .products-at7 .ensures) (omega arith))
+    (pair-stored f (112 + l) (224 + l) (c .products-at8 .ok) (c .products-at8 .ensures) (omega arith))
+    (d .loop .inv)
+
+returns : tie.Need-returns Inv-loop μ-loop
+returns c =
+    let l = c .before .loop in
+    let a = c .before .before .args in
+    let r = streamed-all (pairOf (productAt (a .q .now) (a .x .now))) 7936 (l .p) (l .l) (omega arith) (l .inv) in
+    (r .0, record { near = r .1 })
+
+pub products-spec : {M : Type 1} → statement M
+products-spec =
+    tie.close
+    (tie.spec
+    Inv-loop
+    μ-loop
+    loop-holds
+    products-at-requires
+    mul-p
+    array-set-from-p
+    add-products-at
+    products-at-requires-2
+    add-p
+    mul-p-2
+    array-set-from-p-2
+    add-products-at-2
+    products-at-requires-3
+    add-p-2
+    mul-p-3
+    array-set-from-p-3
+    add-products-at-3
+    products-at-requires-4
+    add-p-3
+    mul-p-4
+    array-set-from-p-4
+    add-products-at-4
+    products-at-requires-5
+    add-p-4
+    mul-p-5
+    array-set-from-p-5
+    add-products-at-5
+    products-at-requires-6
+    add-p-5
+    mul-p-6
+    array-set-from-p-6
+    add-products-at-6
+    products-at-requires-7
+    add-p-6
+    mul-p-7
+    array-set-from-p-7
+    add-products-at-7
+    products-at-requires-8
+    add-p-7
+    mul-p-8
+    array-set-from-p-8
+    add-l
+    loop-less
+    loop-again
+    returns)
