@@ -42,7 +42,7 @@ mul-if1 c = omega arith
 element-copy-out-if1 : tie.Need-element-copy-out-if1 Inv-loop μ-loop
 element-copy-out-if1 c = omega arith
 
--- the turn's sum, as it is compared, and its claim
+-- the turn's sum, as it is compared
 sum-is : (c : tie.After-sum-of-32 Inv-loop μ-loop)
     → let b = c .before .before .before in
     toZ w16 (ofZ w16 (c .sum-of-32 .result)) ≡ sumOf32 (b .before .before .args .qs .now) (b .loop .j)
