@@ -9,9 +9,6 @@ use Rattle.layers_shape.proofs.Fits.{InSizes, in-sizes, product-small}
 use Rattle.layers_shape.proofs.layer_refusal.Statement.{statement}
 use Rattle.layers_shape.proofs.layer_refusal.Tie as tie
 
-is-oversize-requires : tie.Need-is-oversize-requires
-is-oversize-requires c κs = search needs
-
 -- past the first check no size is over its most
 sized : (c : tie.Else1) → InSizes (c .before .before .args .s)
 sized c = in-sizes (c .before .before .args .s) (sym (c .before .is-oversize .ensures) ∙ c .if1 .left)
@@ -94,7 +91,7 @@ pub layer-refusal-spec : {M : Type 1} → statement M
 layer-refusal-spec =
     tie.close
     (tie.spec
-    is-oversize-requires
+    (λ c κs. search needs)
     returns
     returns-2
     weight-bytes-requires

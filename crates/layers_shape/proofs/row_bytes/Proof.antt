@@ -7,9 +7,6 @@ use Rattle.layers_shape.proofs.Fits.{row-small}
 use Rattle.layers_shape.proofs.row_bytes.Statement.{statement}
 use Rattle.layers_shape.proofs.row_bytes.Tie as tie
 
-block-bytes-requires : tie.Need-block-bytes-requires
-block-bytes-requires c κs = search needs
-
 mul-result : tie.Need-mul-result
 mul-result c = record { fits = rw (c .block-bytes .ensures) (omega (arith, row-small (c .before .args .format) (c .before .args .n) (c .before .pre))) }
 
@@ -17,4 +14,4 @@ returns : tie.Need-returns
 returns c = ap (λ (z : ℕ). c .before .args .n / 256 * z) (c .block-bytes .ensures)
 
 pub row-bytes-spec : {M : Type 1} → statement M
-row-bytes-spec = tie.close (tie.spec block-bytes-requires mul-result returns)
+row-bytes-spec = tie.close (tie.spec (λ c κs. search needs) mul-result returns)

@@ -11,35 +11,8 @@ Inv-loop buf₀ replay₀ turns₀ buf replay turns = length buf ≡ length buf�
 abbrev μ-loop : tie.MeasureT-loop
 μ-loop buf₀ replay₀ turns₀ buf replay turns = turns
 
-begin-requires : tie.Need-begin-requires Inv-loop μ-loop
-begin-requires c κs = search needs
-
 loop-holds : tie.Need-loop-holds Inv-loop μ-loop
 loop-holds c = refl
-
-step-requires : tie.Need-step-requires Inv-loop μ-loop
-step-requires c κs = search needs
-
-sub-turns : tie.Need-sub-turns Inv-loop μ-loop
-sub-turns c = search needs
-
-loop-less : tie.Need-loop-less Inv-loop μ-loop
-loop-less c = search needs
-
-loop-again : tie.Need-loop-again Inv-loop μ-loop
-loop-again c = search needs
-
-same-length : tie.Need-same-length Inv-loop μ-loop
-same-length c = search needs
-
-returns : tie.Need-returns Inv-loop μ-loop
-returns c = search needs
-
-same-length-2 : tie.Need-same-length-2 Inv-loop μ-loop
-same-length-2 c = search needs
-
-returns-2 : tie.Need-returns-2 Inv-loop μ-loop
-returns-2 c = search needs
 
 pub replay-all-spec : {M : Type 1} → statement M
 replay-all-spec =
@@ -47,13 +20,13 @@ replay-all-spec =
     (tie.spec
     Inv-loop
     μ-loop
-    begin-requires
+    (λ c κs. search needs)
     loop-holds
-    step-requires
-    sub-turns
-    loop-less
-    loop-again
-    same-length
-    returns
-    same-length-2
-    returns-2)
+    (λ c κs. search needs)
+    (λ c. search needs)
+    (λ c. search needs)
+    (λ c. search needs)
+    (λ c. search needs)
+    (λ c. search needs)
+    (λ c. search needs)
+    (λ c. search needs))

@@ -8,15 +8,6 @@ use Rattle.bench_card.specs.RunOnly.{ones}
 use Rattle.bench_card.proofs.run_only.against_ones.Statement.{statement}
 use Rattle.bench_card.proofs.run_only.against_ones.Tie as tie
 
-slice-aggregate-canonical-dot-pub : tie.Need-slice-aggregate-canonical-dot-pub
-slice-aggregate-canonical-dot-pub c = search needs
-
-canonical-dot-pub-requires : tie.Need-canonical-dot-pub-requires
-canonical-dot-pub-requires c κs = search needs
-
-same-answer-requires : tie.Need-same-answer-requires
-same-answer-requires c κs = search needs
-
 returns : tie.Need-returns
 unfolding ones
 returns c = c .same-answer .ensures ∙ ap (λ (t : Said Float). sameAnswer t (c .before .before .before .before .args .number) (c .before .before .before .before .args .sum)) (c .before .canonical-dot-pub .ensures)
@@ -25,7 +16,7 @@ pub against-ones-spec : {M : Type 1} → statement M
 against-ones-spec =
     tie.close
     (tie.spec
-    slice-aggregate-canonical-dot-pub
-    canonical-dot-pub-requires
-    same-answer-requires
+    (λ c. search needs)
+    (λ c κs. search needs)
+    (λ c κs. search needs)
     returns)

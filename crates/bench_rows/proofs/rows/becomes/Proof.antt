@@ -8,15 +8,9 @@ use Rattle.bench_rows.specs.Rows.{meant, judged}
 use Rattle.bench_rows.proofs.rows.becomes.Statement.{statement}
 use Rattle.bench_rows.proofs.rows.becomes.Tie as tie
 
-whole-to-f32-requires : tie.Need-whole-to-f32-requires
-whole-to-f32-requires c κs = search needs
-
-bits-of-requires : tie.Need-bits-of-requires
-bits-of-requires c κs = search needs
-
 returns : tie.Need-returns
 unfolding judged meant answered sameNumbers answer every
 returns c = rw (c .bits-of .ensures, c .before .whole-to-f32 .ensures, read-is w32 _ (c .before .before .fits .n .sfits))
 
 pub becomes-spec : {M : Type 1} → statement M
-becomes-spec = tie.close (tie.spec whole-to-f32-requires bits-of-requires returns)
+becomes-spec = tie.close (tie.spec (λ c κs. search needs) (λ c κs. search needs) returns)

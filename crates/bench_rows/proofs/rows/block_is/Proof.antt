@@ -20,23 +20,11 @@ use Rattle.bench_rows.proofs.rows.block_is.Tie as tie
 byte-is : (z : ℤ) (b : ℕ) → mag z < 2 ^ hbits w8 → b ≡ byteOf (toZ w8 (ofZ w8 z)) → b ≡ byteOf z
 byte-is z b h e = e ∙ ap byteOf (read-is w8 z h)
 
-inverse-of-requires : tie.Need-inverse-of-requires
-inverse-of-requires c κs = search needs
-
-bits-of-requires : tie.Need-bits-of-requires
-bits-of-requires c κs = search needs
-
 returns : tie.Need-returns
 unfolding sameNumbers every table
 returns c =
     let i = c .before .bits-of .ensures ∙ ap (toBits binary32) (c .before .before .inverse-of .ensures) in
     rw (ne-eqb _ _ (λ z. c .if1 .taken (i ∙ z)))
-
-array-copy-out-unsigned-byte : tie.Need-array-copy-out-unsigned-byte
-array-copy-out-unsigned-byte c = search needs
-
-unsigned-byte-requires : tie.Need-unsigned-byte-requires
-unsigned-byte-requires c κs = search needs
 
 returns-2 : tie.Need-returns-2
 unfolding sameNumbers every table
@@ -45,12 +33,6 @@ returns-2 c =
     let p = byte-is (elem (c .before .before .before .before .before .before .before .args .block .qs) 0) _ (c .before .before .unsigned-byte-arg .given) (c .before .unsigned-byte .ensures) in
     rw (eq-eqb _ _ (sym i ∙ c .before .before .before .if1 .left), ne-eqb _ _ (λ z. c .if2 .taken (p ∙ z)))
 
-array-copy-out-unsigned-byte-2 : tie.Need-array-copy-out-unsigned-byte-2
-array-copy-out-unsigned-byte-2 c = search needs
-
-unsigned-byte-requires-2 : tie.Need-unsigned-byte-requires-2
-unsigned-byte-requires-2 c κs = search needs
-
 returns-3 : tie.Need-returns-3
 unfolding sameNumbers every table
 returns-3 c =
@@ -58,12 +40,6 @@ returns-3 c =
     let p = byte-is (elem (c .before .before .before .before .before .before .before .before .before .before .args .block .qs) 0) _ (c .before .before .before .before .before .unsigned-byte-arg .given) (c .before .before .before .before .unsigned-byte .ensures) in
     let q = byte-is (elem (c .before .before .before .before .before .before .before .before .before .before .args .block .qs) 1) _ (c .before .before .unsigned-byte-arg2 .given) (c .before .unsigned-byte2 .ensures) in
     rw (eq-eqb _ _ (sym i ∙ c .before .before .before .before .before .before .if1 .left), eq-eqb _ _ (sym p ∙ c .before .before .before .if2 .left), ne-eqb _ _ (λ z. c .if3 .taken (q ∙ z)))
-
-array-copy-out-unsigned-byte-3 : tie.Need-array-copy-out-unsigned-byte-3
-array-copy-out-unsigned-byte-3 c = search needs
-
-unsigned-byte-requires-3 : tie.Need-unsigned-byte-requires-3
-unsigned-byte-requires-3 c κs = search needs
 
 returns-4 : tie.Need-returns-4
 unfolding sameNumbers every table
@@ -78,15 +54,15 @@ pub block-is-spec : {M : Type 1} → statement M
 block-is-spec =
     tie.close
     (tie.spec
-    inverse-of-requires
-    bits-of-requires
+    (λ c κs. search needs)
+    (λ c κs. search needs)
     returns
-    array-copy-out-unsigned-byte
-    unsigned-byte-requires
+    (λ c. search needs)
+    (λ c κs. search needs)
     returns-2
-    array-copy-out-unsigned-byte-2
-    unsigned-byte-requires-2
+    (λ c. search needs)
+    (λ c κs. search needs)
     returns-3
-    array-copy-out-unsigned-byte-3
-    unsigned-byte-requires-3
+    (λ c. search needs)
+    (λ c κs. search needs)
     returns-4)

@@ -6,12 +6,9 @@ use Rattle.bench_rows.specs.Rows.{meant, judged}
 use Rattle.bench_rows.proofs.rows.encodes.Statement.{statement}
 use Rattle.bench_rows.proofs.rows.encodes.Tie as tie
 
-f32-to-f16-requires : tie.Need-f32-to-f16-requires
-f32-to-f16-requires c κs = search needs
-
 returns : tie.Need-returns
 unfolding judged meant answered sameNumbers answer every
 returns c = rw (c .f32-to-f16 .ensures)
 
 pub encodes-spec : {M : Type 1} → statement M
-encodes-spec = tie.close (tie.spec f32-to-f16-requires returns)
+encodes-spec = tie.close (tie.spec (λ c κs. search needs) returns)

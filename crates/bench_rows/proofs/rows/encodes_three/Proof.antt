@@ -7,12 +7,6 @@ use Rattle.bench_rows.specs.Rows.{meant, judged}
 use Rattle.bench_rows.proofs.rows.encodes_three.Statement.{statement}
 use Rattle.bench_rows.proofs.rows.encodes_three.Tie as tie
 
-encodes-two-requires : tie.Need-encodes-two-requires
-encodes-two-requires c κs = search needs
-
-encodes-requires : tie.Need-encodes-requires
-encodes-requires c κs = search needs
-
 returns : tie.Need-returns
 unfolding judged meant answered sameNumbers answer every
 returns c = rw (sym (c .before .before .encodes-two .ensures) ∙ c .before .if1 .taken) (c .encodes .ensures)
@@ -22,4 +16,4 @@ unfolding judged meant answered sameNumbers answer every
 returns-2 c = rw (sym (c .before .encodes-two .ensures) ∙ c .if1 .left) (c .if1 .left)
 
 pub encodes-three-spec : {M : Type 1} → statement M
-encodes-three-spec = tie.close (tie.spec encodes-two-requires encodes-requires returns returns-2)
+encodes-three-spec = tie.close (tie.spec (λ c κs. search needs) (λ c κs. search needs) returns returns-2)

@@ -7,12 +7,6 @@ use Rattle.bench_rows.specs.Rows.{meant, judged}
 use Rattle.bench_rows.proofs.rows.encodes_two.Statement.{statement}
 use Rattle.bench_rows.proofs.rows.encodes_two.Tie as tie
 
-encodes-requires : tie.Need-encodes-requires
-encodes-requires c κs = search needs
-
-encodes-requires-2 : tie.Need-encodes-requires-2
-encodes-requires-2 c κs = search needs
-
 returns : tie.Need-returns
 unfolding judged meant answered sameNumbers answer every
 returns c = rw (sym (c .before .before .encodes .ensures) ∙ c .before .if1 .taken) (c .encodes2 .ensures)
@@ -22,4 +16,4 @@ unfolding judged meant answered sameNumbers answer every
 returns-2 c = rw (sym (c .before .encodes .ensures) ∙ c .if1 .left) (c .if1 .left)
 
 pub encodes-two-spec : {M : Type 1} → statement M
-encodes-two-spec = tie.close (tie.spec encodes-requires encodes-requires-2 returns returns-2)
+encodes-two-spec = tie.close (tie.spec (λ c κs. search needs) (λ c κs. search needs) returns returns-2)

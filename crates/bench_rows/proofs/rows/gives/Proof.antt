@@ -8,18 +8,9 @@ use Rattle.bench_rows.specs.Rows.{meant, judged}
 use Rattle.bench_rows.proofs.rows.gives.Statement.{statement}
 use Rattle.bench_rows.proofs.rows.gives.Tie as tie
 
-of-bits-requires : tie.Need-of-bits-requires
-of-bits-requires c κs = search needs
-
-round-q8-requires : tie.Need-round-q8-requires
-round-q8-requires c κs = search needs
-
-unsigned-byte-requires : tie.Need-unsigned-byte-requires
-unsigned-byte-requires c κs = search needs
-
 returns : tie.Need-returns
 unfolding judged meant answered sameNumbers answer every
 returns c = rw (c .unsigned-byte .ensures, read-is w8 _ (c .before .round-q8 .ok), c .before .round-q8 .ensures, c .before .before .of-bits .ensures)
 
 pub gives-spec : {M : Type 1} → statement M
-gives-spec = tie.close (tie.spec of-bits-requires round-q8-requires unsigned-byte-requires returns)
+gives-spec = tie.close (tie.spec (λ c κs. search needs) (λ c κs. search needs) (λ c κs. search needs) returns)

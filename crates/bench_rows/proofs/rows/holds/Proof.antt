@@ -7,60 +7,6 @@ use Rattle.bench_rows.specs.Rows.{judged}
 use Rattle.bench_rows.proofs.rows.holds.Statement.{statement}
 use Rattle.bench_rows.proofs.rows.holds.Tie as tie
 
-enum-known-row : tie.Need-enum-known-row
-enum-known-row c = search needs
-
-widens-requires : tie.Need-widens-requires
-widens-requires c κs = search needs
-
-enum-known-row-2 : tie.Need-enum-known-row-2
-enum-known-row-2 c = search needs
-
-encodes-requires : tie.Need-encodes-requires
-encodes-requires c κs = search needs
-
-enum-known-row-3 : tie.Need-enum-known-row-3
-enum-known-row-3 c = search needs
-
-encodes-two-requires : tie.Need-encodes-two-requires
-encodes-two-requires c κs = search needs
-
-enum-known-row-4 : tie.Need-enum-known-row-4
-enum-known-row-4 c = search needs
-
-encodes-three-requires : tie.Need-encodes-three-requires
-encodes-three-requires c κs = search needs
-
-enum-known-row-5 : tie.Need-enum-known-row-5
-enum-known-row-5 c = search needs
-
-packs-requires : tie.Need-packs-requires
-packs-requires c κs = search needs
-
-enum-known-row-6 : tie.Need-enum-known-row-6
-enum-known-row-6 c = search needs
-
-sums-to-requires : tie.Need-sums-to-requires
-sums-to-requires c κs = search needs
-
-enum-known-row-7 : tie.Need-enum-known-row-7
-enum-known-row-7 c = search needs
-
-becomes-requires : tie.Need-becomes-requires
-becomes-requires c κs = search needs
-
-enum-known-row-8 : tie.Need-enum-known-row-8
-enum-known-row-8 c = search needs
-
-quantizes-requires : tie.Need-quantizes-requires
-quantizes-requires c κs = search needs
-
-enum-known-row-9 : tie.Need-enum-known-row-9
-enum-known-row-9 c = search needs
-
-gives-requires : tie.Need-gives-requires
-gives-requires c κs = search needs
-
 returns : tie.Need-returns
 returns c = c .widens .ensures ∙ ap judged (sym (c .before .before .row .given .1))
 
@@ -94,24 +40,24 @@ pub holds-spec : {M : Type 1} → statement M
 holds-spec =
     tie.close
     (tie.spec
-    enum-known-row
-    widens-requires
-    enum-known-row-2
-    encodes-requires
-    enum-known-row-3
-    encodes-two-requires
-    enum-known-row-4
-    encodes-three-requires
-    enum-known-row-5
-    packs-requires
-    enum-known-row-6
-    sums-to-requires
-    enum-known-row-7
-    becomes-requires
-    enum-known-row-8
-    quantizes-requires
-    enum-known-row-9
-    gives-requires
+    (λ c. search needs)
+    (λ c κs. search needs)
+    (λ c. search needs)
+    (λ c κs. search needs)
+    (λ c. search needs)
+    (λ c κs. search needs)
+    (λ c. search needs)
+    (λ c κs. search needs)
+    (λ c. search needs)
+    (λ c κs. search needs)
+    (λ c. search needs)
+    (λ c κs. search needs)
+    (λ c. search needs)
+    (λ c κs. search needs)
+    (λ c. search needs)
+    (λ c κs. search needs)
+    (λ c. search needs)
+    (λ c κs. search needs)
     returns
     returns-2
     returns-3

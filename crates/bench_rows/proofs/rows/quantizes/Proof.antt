@@ -9,27 +9,6 @@ use Rattle.bench_rows.proofs.Judged.{quantised}
 use Rattle.bench_rows.proofs.rows.quantizes.Statement.{statement}
 use Rattle.bench_rows.proofs.rows.quantizes.Tie as tie
 
-of-bits-requires : tie.Need-of-bits-requires
-of-bits-requires c κs = search needs
-
-array-write-readings : tie.Need-array-write-readings
-array-write-readings c = search needs
-
-of-bits-requires-2 : tie.Need-of-bits-requires-2
-of-bits-requires-2 c κs = search needs
-
-array-write-readings-2 : tie.Need-array-write-readings-2
-array-write-readings-2 c = search needs
-
-slice-aggregate-quantize-block-q8 : tie.Need-slice-aggregate-quantize-block-q8
-slice-aggregate-quantize-block-q8 c = search needs
-
-quantize-block-q8-requires : tie.Need-quantize-block-q8-requires
-quantize-block-q8-requires c κs = search needs
-
-block-is-requires : tie.Need-block-is-requires
-block-is-requires c κs = search needs
-
 returns : tie.Need-returns
 returns c =
     let q = c .before .before in
@@ -45,11 +24,11 @@ pub quantizes-spec : {M : Type 1} → statement M
 quantizes-spec =
     tie.close
     (tie.spec
-    of-bits-requires
-    array-write-readings
-    of-bits-requires-2
-    array-write-readings-2
-    slice-aggregate-quantize-block-q8
-    quantize-block-q8-requires
-    block-is-requires
+    (λ c κs. search needs)
+    (λ c. search needs)
+    (λ c κs. search needs)
+    (λ c. search needs)
+    (λ c. search needs)
+    (λ c κs. search needs)
+    (λ c κs. search needs)
     returns)

@@ -7,15 +7,9 @@ use Rattle.bench_rows.proofs.Judged.{row-answered}
 use Rattle.bench_rows.proofs.rows.row_holds.Statement.{statement}
 use Rattle.bench_rows.proofs.rows.row_holds.Tie as tie
 
-row-of-requires : tie.Need-row-of-requires
-row-of-requires c κs = search needs
-
-holds-requires : tie.Need-holds-requires
-holds-requires c κs = search needs
-
 returns : tie.Need-returns
 unfolding judged
 returns c = c .holds .ensures ∙ ap answered (c .before .row-of .ensures) ∙ row-answered (c .before .before .args .number)
 
 pub row-holds-spec : {M : Type 1} → statement M
-row-holds-spec = tie.close (tie.spec row-of-requires holds-requires returns)
+row-holds-spec = tie.close (tie.spec (λ c κs. search needs) (λ c κs. search needs) returns)

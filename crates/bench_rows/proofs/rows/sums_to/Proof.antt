@@ -13,32 +13,11 @@ use Rattle.bench_rows.proofs.rows.sums_to.Tie as tie
 abbrev one : Float
 one = ofBits binary32 0x3F800000
 
-of-bits-requires : tie.Need-of-bits-requires
-of-bits-requires c κs = search needs
-
-array-write-readings : tie.Need-array-write-readings
-array-write-readings c = search needs
-
-slice-aggregate-canonical-sum-pub : tie.Need-slice-aggregate-canonical-sum-pub
-slice-aggregate-canonical-sum-pub c = search needs
-
-canonical-sum-pub-requires : tie.Need-canonical-sum-pub-requires
-canonical-sum-pub-requires c κs = search needs
-
-enum-known-sum : tie.Need-enum-known-sum
-enum-known-sum c = search needs
-
-enum-told : tie.Need-enum-told
-enum-told c = search needs
-
 returns : tie.Need-returns
 unfolding sameNumbers
 returns c =
     let a = c .before .before .before .before .before .args in
     rw (c .enum-told .given .1) at (summed (a .first) (a .bits) _ (c .before .before .canonical-sum-pub .ensures ∙ ap (λ (v : Float). sumSays (v ∷ one ∷ one ∷ []) 3) (c .before .before .before .before .of-bits .ensures)))
-
-bits-of-requires : tie.Need-bits-of-requires
-bits-of-requires c κs = search needs
 
 returns-2 : tie.Need-returns-2
 unfolding sameNumbers every
@@ -50,12 +29,12 @@ pub sums-to-spec : {M : Type 1} → statement M
 sums-to-spec =
     tie.close
     (tie.spec
-    of-bits-requires
-    array-write-readings
-    slice-aggregate-canonical-sum-pub
-    canonical-sum-pub-requires
-    enum-known-sum
-    enum-told
+    (λ c κs. search needs)
+    (λ c. search needs)
+    (λ c. search needs)
+    (λ c κs. search needs)
+    (λ c. search needs)
+    (λ c. search needs)
     returns
-    bits-of-requires
+    (λ c κs. search needs)
     returns-2)

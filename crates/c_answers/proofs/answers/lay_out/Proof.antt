@@ -4,12 +4,6 @@ use Rattle.c_answers.specs.Answers.{laidOut}
 use Rattle.c_answers.proofs.answers.lay_out.Statement.{statement}
 use Rattle.c_answers.proofs.answers.lay_out.Tie as tie
 
-enum-known-answer : tie.Need-enum-known-answer
-enum-known-answer c = search needs
-
-enum-known-answer-2 : tie.Need-enum-known-answer-2
-enum-known-answer-2 c = search needs
-
 returns : tie.Need-returns
 unfolding laidOut
 returns c = cc
@@ -19,4 +13,4 @@ unfolding laidOut
 returns-2 c = cc
 
 pub lay-out-spec : {M : Type 1} → statement M
-lay-out-spec = tie.close (tie.spec enum-known-answer enum-known-answer-2 returns returns-2)
+lay-out-spec = tie.close (tie.spec (λ c. search needs) (λ c. search needs) returns returns-2)

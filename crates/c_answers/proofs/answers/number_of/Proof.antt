@@ -4,12 +4,6 @@ use Rattle.c_answers.specs.Answers.{numberOf}
 use Rattle.c_answers.proofs.answers.number_of.Statement.{statement}
 use Rattle.c_answers.proofs.answers.number_of.Tie as tie
 
-enum-told : tie.Need-enum-told
-enum-told c = search needs
-
-enum-known-outcome : tie.Need-enum-known-outcome
-enum-known-outcome c = search needs
-
 returns : tie.Need-returns
 unfolding numberOf
 returns c = search needs
@@ -19,4 +13,4 @@ unfolding numberOf
 returns-2 c = search needs
 
 pub number-of-spec : {M : Type 1} → statement M
-number-of-spec = tie.close (tie.spec enum-told enum-known-outcome returns returns-2)
+number-of-spec = tie.close (tie.spec (λ c. search needs) (λ c. search needs) returns returns-2)

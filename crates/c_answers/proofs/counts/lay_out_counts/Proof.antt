@@ -4,12 +4,6 @@ use Rattle.c_answers.specs.Answers.{laidOut}
 use Rattle.c_answers.proofs.counts.lay_out_counts.Statement.{statement}
 use Rattle.c_answers.proofs.counts.lay_out_counts.Tie as tie
 
-enum-known-progress : tie.Need-enum-known-progress
-enum-known-progress c = search needs
-
-enum-known-progress-2 : tie.Need-enum-known-progress-2
-enum-known-progress-2 c = search needs
-
 returns : tie.Need-returns
 unfolding laidOut
 returns c = cc
@@ -20,4 +14,4 @@ returns-2 c = cc
 
 pub lay-out-counts-spec : {M : Type 1} → statement M
 lay-out-counts-spec =
-    tie.close (tie.spec enum-known-progress enum-known-progress-2 returns returns-2)
+    tie.close (tie.spec (λ c. search needs) (λ c. search needs) returns returns-2)

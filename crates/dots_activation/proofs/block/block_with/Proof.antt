@@ -5,11 +5,8 @@ use Rattle.dots_activation.specs.Blocks.{blockIn}
 use Rattle.dots_activation.proofs.block.block_with.Statement.{statement}
 use Rattle.dots_activation.proofs.block.block_with.Tie as tie
 
-sums-of-requires : tie.Need-sums-of-requires
-sums-of-requires c κs = search needs
-
 returns : tie.Need-returns
 returns c = let a = c .before .before .args in ap (blockIn (a .d) (a .t2)) (c .sums-of .ensures)
 
 pub block-with-spec : {M : Type 1} → statement M
-block-with-spec = tie.close (tie.spec sums-of-requires returns)
+block-with-spec = tie.close (tie.spec (λ c κs. search needs) returns)

@@ -15,17 +15,8 @@ low c = elem (c .args .qs .now) (c .args .i)
 abbrev high : tie.Start → ℤ
 high c = elem (c .args .qs .now) (16 + c .args .i)
 
-element-copy-out-result : tie.Need-element-copy-out-result
-element-copy-out-result c = search needs
-
 cast-result : tie.Need-cast-result
 cast-result c = wide-fits w8 w16 (low (c .before)) (c .result .given) tt
-
-add-result : tie.Need-add-result
-add-result c = search needs
-
-element-copy-out-result-2 : tie.Need-element-copy-out-result-2
-element-copy-out-result-2 c = search needs
 
 cast-result-2 : tie.Need-cast-result-2
 cast-result-2 c = wide-fits w8 w16 (high (c .before .before)) (c .result2 .given) tt
@@ -50,10 +41,10 @@ pub pair-spec : {M : Type 1} → statement M
 pair-spec =
     tie.close
     (tie.spec
-    element-copy-out-result
+    (λ c. search needs)
     cast-result
-    add-result
-    element-copy-out-result-2
+    (λ c. search needs)
+    (λ c. search needs)
     cast-result-2
     add-result-2
     returns)

@@ -15,9 +15,6 @@ returns c =
     let e = sym (given-yes _ _ _ (lt-ltb _ _ (c .if1 .taken))) in
     (e, ap blockSaid e)
 
-quantized-block-requires : tie.Need-quantized-block-requires
-quantized-block-requires c κs = search needs
-
 returns-2 : tie.Need-returns-2
 unfolding blockSays orElse
 returns-2 c =
@@ -25,4 +22,4 @@ returns-2 c =
     (e, ap blockSaid e)
 
 pub quantize-block-q8-spec : {M : Type 1} → statement M
-quantize-block-q8-spec = tie.close (tie.spec returns quantized-block-requires returns-2)
+quantize-block-q8-spec = tie.close (tie.spec returns (λ c κs. search needs) returns-2)

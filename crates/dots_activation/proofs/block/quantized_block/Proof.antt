@@ -11,15 +11,6 @@ use Rattle.dots_activation.proofs.block.quantized_block.Tie as tie
 scale-q8-requires : tie.Need-scale-q8-requires
 scale-q8-requires c κs = search needs
 
-inverse-of-requires : tie.Need-inverse-of-requires
-inverse-of-requires c κs = search needs
-
-quants-of-requires : tie.Need-quants-of-requires
-quants-of-requires c κs = search needs
-
-block-with-requires : tie.Need-block-with-requires
-block-with-requires c κs = search needs
-
 returns : tie.Need-returns
 unfolding blockOf
 returns c =
@@ -36,7 +27,7 @@ quantized-block-spec =
     tie.close
     (tie.spec
     scale-q8-requires
-    inverse-of-requires
-    quants-of-requires
-    block-with-requires
+    (λ c κs. search needs)
+    (λ c κs. search needs)
+    (λ c κs. search needs)
     returns)

@@ -26,23 +26,8 @@ abbrev μ-loop : tie.MeasureT-loop
 loop-holds : tie.Need-loop-holds Inv-loop μ-loop
 loop-holds c = (omega arith, refl, filling-start _ _ 256 refl)
 
-mul-round-q8 : tie.Need-mul-round-q8 Inv-loop μ-loop
-mul-round-q8 c = omega arith
-
-shared-slice-read-round-q8 : tie.Need-shared-slice-read-round-q8 Inv-loop μ-loop
-shared-slice-read-round-q8 c = omega arith
-
 round-q8-requires : tie.Need-round-q8-requires Inv-loop μ-loop
 round-q8-requires c κs = tt
-
-array-set-from-qs : tie.Need-array-set-from-qs Inv-loop μ-loop
-array-set-from-qs c = omega arith
-
-add-i : tie.Need-add-i Inv-loop μ-loop
-add-i c = omega arith
-
-loop-less : tie.Need-loop-less Inv-loop μ-loop
-loop-less c = omega arith
 
 loop-again : tie.Need-loop-again Inv-loop μ-loop
 loop-again c =
@@ -67,11 +52,11 @@ quants-of-spec =
     Inv-loop
     μ-loop
     loop-holds
-    mul-round-q8
-    shared-slice-read-round-q8
+    (λ c. omega arith)
+    (λ c. omega arith)
     round-q8-requires
-    array-set-from-qs
-    add-i
-    loop-less
+    (λ c. omega arith)
+    (λ c. omega arith)
+    (λ c. omega arith)
     loop-again
     returns)

@@ -31,18 +31,6 @@ sum-of-32-requires c κs = (c .before .before .before .pairs .ensures .1, omega 
 cast-sums : tie.Need-cast-sums Inv-loop μ-loop
 cast-sums c = rw (read-is w16 _ (c .sum-of-32 .ok)) (fits-within (c .sum-of-32 .ensures .1) tt)
 
-mul-sums : tie.Need-mul-sums Inv-loop μ-loop
-mul-sums c = omega arith
-
-array-set-from-sums : tie.Need-array-set-from-sums Inv-loop μ-loop
-array-set-from-sums c = omega arith
-
-add-j : tie.Need-add-j Inv-loop μ-loop
-add-j c = omega arith
-
-loop-less : tie.Need-loop-less Inv-loop μ-loop
-loop-less c = omega arith
-
 loop-again : tie.Need-loop-again Inv-loop μ-loop
 loop-again c =
     let b = c .before .before .before in
@@ -67,9 +55,9 @@ sums-of-spec =
     loop-holds
     sum-of-32-requires
     cast-sums
-    mul-sums
-    array-set-from-sums
-    add-j
-    loop-less
+    (λ c. omega arith)
+    (λ c. omega arith)
+    (λ c. omega arith)
+    (λ c. omega arith)
     loop-again
     returns)

@@ -36,12 +36,6 @@ sum-of-32-requires c κs = (c .before .before .before .pairs .ensures .1, omega 
 cast-if1 : tie.Need-cast-if1 Inv-loop μ-loop
 cast-if1 c = rw (read-is w16 _ (c .sum-of-32 .ok)) (fits-within (c .sum-of-32 .ensures .1) tt)
 
-mul-if1 : tie.Need-mul-if1 Inv-loop μ-loop
-mul-if1 c = omega arith
-
-element-copy-out-if1 : tie.Need-element-copy-out-if1 Inv-loop μ-loop
-element-copy-out-if1 c = omega arith
-
 -- the turn's sum, as it is compared
 sum-is : (c : tie.After-sum-of-32 Inv-loop μ-loop)
     → let b = c .before .before .before in
@@ -56,12 +50,6 @@ unfolding sumsRight
 returns c =
     let s = c .before .before in
     (sym (every-not _ 8 (s .before .before .before .loop .j) (omega arith) (eqZ-not _ _ (λ e. c .if1 .taken (ap (ofZ w32) (sum-is s ∙ e))))), λ e. absurd (false≢true e))
-
-add-j : tie.Need-add-j Inv-loop μ-loop
-add-j c = omega arith
-
-loop-less : tie.Need-loop-less Inv-loop μ-loop
-loop-less c = omega arith
 
 -- the claim is the sum
 claimed : (c : tie.Else1 Inv-loop μ-loop)
@@ -96,10 +84,10 @@ sums-right-spec =
     loop-holds
     sum-of-32-requires
     cast-if1
-    mul-if1
-    element-copy-out-if1
+    (λ c. omega arith)
+    (λ c. omega arith)
     returns
-    add-j
-    loop-less
+    (λ c. omega arith)
+    (λ c. omega arith)
     loop-again
     returns-2)

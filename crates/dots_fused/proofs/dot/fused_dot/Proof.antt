@@ -13,9 +13,6 @@ use borrow.Author.Needs.{needs}
 use Rattle.dots_fused.proofs.dot.fused_dot.Statement.{statement}
 use Rattle.dots_fused.proofs.dot.fused_dot.Tie as tie
 
-block-bytes-requires : tie.Need-block-bytes-requires
-block-bytes-requires c κs = search needs
-
 rem-over : tie.Need-rem-over
 rem-over c = omega (arith, sizes (OfK (c .before .before .before .args .format)), c .block-bytes .ensures)
 
@@ -95,7 +92,7 @@ pub fused-dot-spec : {M : Type 1} → statement M
 fused-dot-spec =
     tie.close
     (tie.spec
-    block-bytes-requires
+    (λ c κs. search needs)
     rem-over
     div-weights
     mul-weights

@@ -15,26 +15,8 @@ Inv-loop format x w n chunks sums₀ c₀ sums c = Chunking (terms format x w) n
 abbrev μ-loop : tie.MeasureT-loop
 μ-loop format x w n chunks sums₀ c₀ sums c = chunksIn n - c
 
-chunks-in-requires : tie.Need-chunks-in-requires Inv-loop μ-loop
-chunks-in-requires c κs = omega arith
-
 loop-holds : tie.Need-loop-holds Inv-loop μ-loop
 loop-holds c = chunking-start _ _ _ refl
-
-chunk-dot-requires : tie.Need-chunk-dot-requires Inv-loop μ-loop
-chunk-dot-requires c κs = omega arith
-
-mul-sums : tie.Need-mul-sums Inv-loop μ-loop
-mul-sums c = omega arith
-
-array-write-sums : tie.Need-array-write-sums Inv-loop μ-loop
-array-write-sums c = omega arith
-
-add-c : tie.Need-add-c Inv-loop μ-loop
-add-c c = omega arith
-
-loop-less : tie.Need-loop-less Inv-loop μ-loop
-loop-less c = omega arith
 
 loop-again : tie.Need-loop-again Inv-loop μ-loop
 loop-again c =
@@ -42,16 +24,10 @@ loop-again c =
     let a = b .before .before .before .before .args in
     chunking-more (terms (a .format) (a .x .now) (a .w .now)) (a .n) _ (b .loop .sums) (b .loop .c) _ refl (omega arith) (omega arith) (c .chunk-dot .ensures) (b .loop .inv)
 
-array-borrow-prefix-sums : tie.Need-array-borrow-prefix-sums Inv-loop μ-loop
-array-borrow-prefix-sums c = omega arith
-
 slice-aggregate-canonical-combine : tie.Need-slice-aggregate-canonical-combine Inv-loop μ-loop
 slice-aggregate-canonical-combine c =
     let b = c .before .before in
     sym (length-take-le (b .before .chunks-in .result) (b .loop .sums) (omega arith))
-
-canonical-combine-requires : tie.Need-canonical-combine-requires Inv-loop μ-loop
-canonical-combine-requires c κs = omega arith
 
 returns : tie.Need-returns Inv-loop μ-loop
 returns c =
@@ -66,15 +42,15 @@ row-dot-spec =
     (tie.spec
     Inv-loop
     μ-loop
-    chunks-in-requires
+    (λ c κs. omega arith)
     loop-holds
-    chunk-dot-requires
-    mul-sums
-    array-write-sums
-    add-c
-    loop-less
+    (λ c κs. omega arith)
+    (λ c. omega arith)
+    (λ c. omega arith)
+    (λ c. omega arith)
+    (λ c. omega arith)
     loop-again
-    array-borrow-prefix-sums
+    (λ c. omega arith)
     slice-aggregate-canonical-combine
-    canonical-combine-requires
+    (λ c κs. omega arith)
     returns)

@@ -9,26 +9,14 @@ use borrow.Author.Needs.{needs}
 use Rattle.dots_fused_block.proofs.block.add_block.Statement.{statement}
 use Rattle.dots_fused_block.proofs.block.add_block.Tie as tie
 
-enum-told : tie.Need-enum-told
-enum-told c = search needs
-
 quants-q4k-requires : tie.Need-quants-q4k-requires
 quants-q4k-requires c κs = c .before .before .before .before .pre .1 ∙ ap bytesK (c .enum-told .given .1)
-
-slice-aggregate-add-sub-blocks : tie.Need-slice-aggregate-add-sub-blocks
-slice-aggregate-add-sub-blocks c = search needs
 
 add-sub-blocks-requires : tie.Need-add-sub-blocks-requires
 add-sub-blocks-requires c κs = let t = c .before .before .before .before .before .before in (t .pre .0, omega (arith, t .pre .1 ∙ ap bytesK (c .before .before .enum-told .given .1)), omega arith)
 
-enum-told-2 : tie.Need-enum-told-2
-enum-told-2 c = search needs
-
 quants-q6k-requires : tie.Need-quants-q6k-requires
 quants-q6k-requires c κs = c .before .before .before .before .pre .1 ∙ ap bytesK (c .enum-told2 .given .1)
-
-slice-aggregate-add-runs : tie.Need-slice-aggregate-add-runs
-slice-aggregate-add-runs c = search needs
 
 add-runs-requires : tie.Need-add-runs-requires
 add-runs-requires c κs = let t = c .before .before .before .before .before .before in (t .pre .0, t .pre .1 ∙ ap bytesK (c .before .before .enum-told2 .given .1), omega arith)
@@ -49,13 +37,13 @@ pub add-block-spec : {M : Type 1} → statement M
 add-block-spec =
     tie.close
     (tie.spec
-    enum-told
+    (λ c. search needs)
     quants-q4k-requires
-    slice-aggregate-add-sub-blocks
+    (λ c. search needs)
     add-sub-blocks-requires
-    enum-told-2
+    (λ c. search needs)
     quants-q6k-requires
-    slice-aggregate-add-runs
+    (λ c. search needs)
     add-runs-requires
     returns
     returns-2)

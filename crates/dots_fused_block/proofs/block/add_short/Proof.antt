@@ -12,18 +12,6 @@ use borrow.Author.Needs.{needs}
 use Rattle.dots_fused_block.proofs.block.add_short.Statement.{statement}
 use Rattle.dots_fused_block.proofs.block.add_short.Tie as tie
 
-slice-aggregate-decode-k : tie.Need-slice-aggregate-decode-k
-slice-aggregate-decode-k c = search needs
-
-decode-k-requires : tie.Need-decode-k-requires
-decode-k-requires c κs = search needs
-
-slice-aggregate-add-products : tie.Need-slice-aggregate-add-products
-slice-aggregate-add-products c = search needs
-
-add-products-requires : tie.Need-add-products-requires
-add-products-requires c κs = search needs
-
 returns : tie.Need-returns
 returns c =
     let d = c .before .before .before .decode-k in
@@ -39,8 +27,8 @@ pub add-short-spec : {M : Type 1} → statement M
 add-short-spec =
     tie.close
     (tie.spec
-    slice-aggregate-decode-k
-    decode-k-requires
-    slice-aggregate-add-products
-    add-products-requires
+    (λ c. search needs)
+    (λ c κs. search needs)
+    (λ c. search needs)
+    (λ c κs. search needs)
     returns)

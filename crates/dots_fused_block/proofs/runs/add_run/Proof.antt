@@ -7,48 +7,6 @@ use borrow.Author.Needs.{needs}
 use Rattle.dots_fused_block.proofs.runs.add_run.Statement.{statement}
 use Rattle.dots_fused_block.proofs.runs.add_run.Tie as tie
 
-sub-eight-terms : tie.Need-sub-eight-terms
-sub-eight-terms c = search needs
-
-part-eight-terms-start : tie.Need-part-eight-terms-start
-part-eight-terms-start c = search needs
-
-part-eight-terms-end : tie.Need-part-eight-terms-end
-part-eight-terms-end c = search needs
-
-sub-eight-terms-2 : tie.Need-sub-eight-terms-2
-sub-eight-terms-2 c = search needs
-
-part-eight-terms-start-2 : tie.Need-part-eight-terms-start-2
-part-eight-terms-start-2 c = search needs
-
-part-eight-terms-end-2 : tie.Need-part-eight-terms-end-2
-part-eight-terms-end-2 c = search needs
-
-eight-terms-requires : tie.Need-eight-terms-requires
-eight-terms-requires c κs = search needs
-
-sub-eight-terms-3 : tie.Need-sub-eight-terms-3
-sub-eight-terms-3 c = search needs
-
-part-eight-terms-start-3 : tie.Need-part-eight-terms-start-3
-part-eight-terms-start-3 c = search needs
-
-part-eight-terms-end-3 : tie.Need-part-eight-terms-end-3
-part-eight-terms-end-3 c = search needs
-
-sub-eight-terms-4 : tie.Need-sub-eight-terms-4
-sub-eight-terms-4 c = search needs
-
-part-eight-terms-start-4 : tie.Need-part-eight-terms-start-4
-part-eight-terms-start-4 c = search needs
-
-part-eight-terms-end-4 : tie.Need-part-eight-terms-end-4
-part-eight-terms-end-4 c = search needs
-
-eight-terms-requires-2 : tie.Need-eight-terms-requires-2
-eight-terms-requires-2 c κs = search needs
-
 returns : tie.Need-returns
 returns c =
     let f = c .before .before .before in
@@ -61,18 +19,18 @@ pub add-run-spec : {M : Type 1} → statement M
 add-run-spec =
     tie.close
     (tie.spec
-    sub-eight-terms
-    part-eight-terms-start
-    part-eight-terms-end
-    sub-eight-terms-2
-    part-eight-terms-start-2
-    part-eight-terms-end-2
-    eight-terms-requires
-    sub-eight-terms-3
-    part-eight-terms-start-3
-    part-eight-terms-end-3
-    sub-eight-terms-4
-    part-eight-terms-start-4
-    part-eight-terms-end-4
-    eight-terms-requires-2
+    (λ c. search needs)
+    (λ c. search needs)
+    (λ c. search needs)
+    (λ c. search needs)
+    (λ c. search needs)
+    (λ c. search needs)
+    (λ c κs. search needs)
+    (λ c. search needs)
+    (λ c. search needs)
+    (λ c. search needs)
+    (λ c. search needs)
+    (λ c. search needs)
+    (λ c. search needs)
+    (λ c κs. search needs)
     returns)

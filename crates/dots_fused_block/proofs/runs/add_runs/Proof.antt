@@ -21,53 +21,8 @@ Inv-loop x block q scales out₀ e₀ out e = Grown out₀ (blockTerms Q6K x blo
 abbrev μ-loop : tie.MeasureT-loop
 μ-loop x block q scales out₀ e₀ out e = 16 - e
 
-scales-q6k-requires : tie.Need-scales-q6k-requires Inv-loop μ-loop
-scales-q6k-requires c κs = search needs
-
 loop-holds : tie.Need-loop-holds Inv-loop μ-loop
 loop-holds c = (omega arith, lanes-none _ _)
-
-mul-at : tie.Need-mul-at Inv-loop μ-loop
-mul-at c = omega arith
-
-add-end : tie.Need-add-end Inv-loop μ-loop
-add-end c = omega arith
-
-mul-add-run : tie.Need-mul-add-run Inv-loop μ-loop
-mul-add-run c = omega arith
-
-sub-add-run : tie.Need-sub-add-run Inv-loop μ-loop
-sub-add-run c = omega arith
-
-part-add-run-start : tie.Need-part-add-run-start Inv-loop μ-loop
-part-add-run-start c = omega arith
-
-part-add-run-end : tie.Need-part-add-run-end Inv-loop μ-loop
-part-add-run-end c = omega arith
-
-sub-add-run-2 : tie.Need-sub-add-run-2 Inv-loop μ-loop
-sub-add-run-2 c = omega arith
-
-part-add-run-start-2 : tie.Need-part-add-run-start-2 Inv-loop μ-loop
-part-add-run-start-2 c = omega arith
-
-part-add-run-end-2 : tie.Need-part-add-run-end-2 Inv-loop μ-loop
-part-add-run-end-2 c = omega arith
-
-mul-add-run-2 : tie.Need-mul-add-run-2 Inv-loop μ-loop
-mul-add-run-2 c = omega arith
-
-array-read-add-run : tie.Need-array-read-add-run Inv-loop μ-loop
-array-read-add-run c = omega arith
-
-add-run-requires : tie.Need-add-run-requires Inv-loop μ-loop
-add-run-requires c κs = omega arith
-
-add-e : tie.Need-add-e Inv-loop μ-loop
-add-e c = omega arith
-
-loop-less : tie.Need-loop-less Inv-loop μ-loop
-loop-less c = omega arith
 
 loop-again : tie.Need-loop-again Inv-loop μ-loop
 loop-again c =
@@ -91,21 +46,21 @@ add-runs-spec =
     (tie.spec
     Inv-loop
     μ-loop
-    scales-q6k-requires
+    (λ c κs. search needs)
     loop-holds
-    mul-at
-    add-end
-    mul-add-run
-    sub-add-run
-    part-add-run-start
-    part-add-run-end
-    sub-add-run-2
-    part-add-run-start-2
-    part-add-run-end-2
-    mul-add-run-2
-    array-read-add-run
-    add-run-requires
-    add-e
-    loop-less
+    (λ c. omega arith)
+    (λ c. omega arith)
+    (λ c. omega arith)
+    (λ c. omega arith)
+    (λ c. omega arith)
+    (λ c. omega arith)
+    (λ c. omega arith)
+    (λ c. omega arith)
+    (λ c. omega arith)
+    (λ c. omega arith)
+    (λ c. omega arith)
+    (λ c κs. omega arith)
+    (λ c. omega arith)
+    (λ c. omega arith)
     loop-again
     returns)

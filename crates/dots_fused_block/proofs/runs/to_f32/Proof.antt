@@ -17,9 +17,6 @@ add-result c = sum-fits (c .args .q) (c .fits .q .sfits)
 cast-result-2 : tie.Need-cast-result-2
 cast-result-2 c = rw (sum-is (c .args .q) (c .fits .q .sfits)) (tt, record { fits = above-under (c .args .q) (c .fits .q .sfits) })
 
-int-to-float-result : tie.Need-int-to-float-result
-int-to-float-result c = search needs
-
 returns : tie.Need-returns
 unfolding ofBits
 returns c =
@@ -28,4 +25,4 @@ returns c =
     ap (λ (y : ℤ). sub binary32 (ofInt binary32 (pos (natAbs y))) (fin false 1 (pos 7))) (sum-is q h) ∙ back q h
 
 pub to-f32-spec : {M : Type 1} → statement M
-to-f32-spec = tie.close (tie.spec cast-result add-result cast-result-2 int-to-float-result returns)
+to-f32-spec = tie.close (tie.spec cast-result add-result cast-result-2 (λ c. search needs) returns)

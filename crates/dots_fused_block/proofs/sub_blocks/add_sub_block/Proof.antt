@@ -16,42 +16,6 @@ abbrev μ-loop : tie.MeasureT-loop
 loop-holds : tie.Need-loop-holds Inv-loop μ-loop
 loop-holds c = (omega arith, lanes-none _ _)
 
-mul-at : tie.Need-mul-at Inv-loop μ-loop
-mul-at c = omega arith
-
-add-end : tie.Need-add-end Inv-loop μ-loop
-add-end c = omega arith
-
-mul-eight-terms : tie.Need-mul-eight-terms Inv-loop μ-loop
-mul-eight-terms c = omega arith
-
-sub-eight-terms : tie.Need-sub-eight-terms Inv-loop μ-loop
-sub-eight-terms c = omega arith
-
-part-eight-terms-start : tie.Need-part-eight-terms-start Inv-loop μ-loop
-part-eight-terms-start c = omega arith
-
-part-eight-terms-end : tie.Need-part-eight-terms-end Inv-loop μ-loop
-part-eight-terms-end c = omega arith
-
-sub-eight-terms-2 : tie.Need-sub-eight-terms-2 Inv-loop μ-loop
-sub-eight-terms-2 c = omega arith
-
-part-eight-terms-start-2 : tie.Need-part-eight-terms-start-2 Inv-loop μ-loop
-part-eight-terms-start-2 c = omega arith
-
-part-eight-terms-end-2 : tie.Need-part-eight-terms-end-2 Inv-loop μ-loop
-part-eight-terms-end-2 c = omega arith
-
-eight-terms-requires : tie.Need-eight-terms-requires Inv-loop μ-loop
-eight-terms-requires c κs = omega arith
-
-add-e : tie.Need-add-e Inv-loop μ-loop
-add-e c = omega arith
-
-loop-less : tie.Need-loop-less Inv-loop μ-loop
-loop-less c = omega arith
-
 loop-again : tie.Need-loop-again Inv-loop μ-loop
 loop-again c =
     let b = c .before .before .before .before in
@@ -73,17 +37,17 @@ add-sub-block-spec =
     Inv-loop
     μ-loop
     loop-holds
-    mul-at
-    add-end
-    mul-eight-terms
-    sub-eight-terms
-    part-eight-terms-start
-    part-eight-terms-end
-    sub-eight-terms-2
-    part-eight-terms-start-2
-    part-eight-terms-end-2
-    eight-terms-requires
-    add-e
-    loop-less
+    (λ c. omega arith)
+    (λ c. omega arith)
+    (λ c. omega arith)
+    (λ c. omega arith)
+    (λ c. omega arith)
+    (λ c. omega arith)
+    (λ c. omega arith)
+    (λ c. omega arith)
+    (λ c. omega arith)
+    (λ c κs. omega arith)
+    (λ c. omega arith)
+    (λ c. omega arith)
     loop-again
     returns)

@@ -21,62 +21,8 @@ Inv-loop x block q scales minimums out₀ j₀ out j = Grown out₀ (blockTerms 
 abbrev μ-loop : tie.MeasureT-loop
 μ-loop x block q scales minimums out₀ j₀ out j = 8 - j
 
-scales-q4k-requires : tie.Need-scales-q4k-requires Inv-loop μ-loop
-scales-q4k-requires c κs = search needs
-
-minimums-q4k-requires : tie.Need-minimums-q4k-requires Inv-loop μ-loop
-minimums-q4k-requires c κs = search needs
-
 loop-holds : tie.Need-loop-holds Inv-loop μ-loop
 loop-holds c = (omega arith, lanes-none _ _)
-
-mul-at : tie.Need-mul-at Inv-loop μ-loop
-mul-at c = omega arith
-
-add-end : tie.Need-add-end Inv-loop μ-loop
-add-end c = omega arith
-
-mul-add-sub-block : tie.Need-mul-add-sub-block Inv-loop μ-loop
-mul-add-sub-block c = omega arith
-
-sub-add-sub-block : tie.Need-sub-add-sub-block Inv-loop μ-loop
-sub-add-sub-block c = omega arith
-
-part-add-sub-block-start : tie.Need-part-add-sub-block-start Inv-loop μ-loop
-part-add-sub-block-start c = omega arith
-
-part-add-sub-block-end : tie.Need-part-add-sub-block-end Inv-loop μ-loop
-part-add-sub-block-end c = omega arith
-
-sub-add-sub-block-2 : tie.Need-sub-add-sub-block-2 Inv-loop μ-loop
-sub-add-sub-block-2 c = omega arith
-
-part-add-sub-block-start-2 : tie.Need-part-add-sub-block-start-2 Inv-loop μ-loop
-part-add-sub-block-start-2 c = omega arith
-
-part-add-sub-block-end-2 : tie.Need-part-add-sub-block-end-2 Inv-loop μ-loop
-part-add-sub-block-end-2 c = omega arith
-
-mul-add-sub-block-2 : tie.Need-mul-add-sub-block-2 Inv-loop μ-loop
-mul-add-sub-block-2 c = omega arith
-
-array-read-add-sub-block : tie.Need-array-read-add-sub-block Inv-loop μ-loop
-array-read-add-sub-block c = omega arith
-
-mul-add-sub-block-3 : tie.Need-mul-add-sub-block-3 Inv-loop μ-loop
-mul-add-sub-block-3 c = omega arith
-
-array-read-add-sub-block-2 : tie.Need-array-read-add-sub-block-2 Inv-loop μ-loop
-array-read-add-sub-block-2 c = omega arith
-
-add-sub-block-requires : tie.Need-add-sub-block-requires Inv-loop μ-loop
-add-sub-block-requires c κs = omega arith
-
-add-j : tie.Need-add-j Inv-loop μ-loop
-add-j c = omega arith
-
-loop-less : tie.Need-loop-less Inv-loop μ-loop
-loop-less c = omega arith
 
 loop-again : tie.Need-loop-again Inv-loop μ-loop
 loop-again c =
@@ -101,24 +47,24 @@ add-sub-blocks-spec =
     (tie.spec
     Inv-loop
     μ-loop
-    scales-q4k-requires
-    minimums-q4k-requires
+    (λ c κs. search needs)
+    (λ c κs. search needs)
     loop-holds
-    mul-at
-    add-end
-    mul-add-sub-block
-    sub-add-sub-block
-    part-add-sub-block-start
-    part-add-sub-block-end
-    sub-add-sub-block-2
-    part-add-sub-block-start-2
-    part-add-sub-block-end-2
-    mul-add-sub-block-2
-    array-read-add-sub-block
-    mul-add-sub-block-3
-    array-read-add-sub-block-2
-    add-sub-block-requires
-    add-j
-    loop-less
+    (λ c. omega arith)
+    (λ c. omega arith)
+    (λ c. omega arith)
+    (λ c. omega arith)
+    (λ c. omega arith)
+    (λ c. omega arith)
+    (λ c. omega arith)
+    (λ c. omega arith)
+    (λ c. omega arith)
+    (λ c. omega arith)
+    (λ c. omega arith)
+    (λ c. omega arith)
+    (λ c. omega arith)
+    (λ c κs. omega arith)
+    (λ c. omega arith)
+    (λ c. omega arith)
     loop-again
     returns)

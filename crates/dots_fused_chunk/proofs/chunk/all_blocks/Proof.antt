@@ -11,20 +11,11 @@ use borrow.Author.Needs.{needs}
 use Rattle.dots_fused_chunk.proofs.chunk.all_blocks.Statement.{statement}
 use Rattle.dots_fused_chunk.proofs.chunk.all_blocks.Tie as tie
 
-whole-blocks-requires : tie.Need-whole-blocks-requires
-whole-blocks-requires c κs = search needs
-
 returns : tie.Need-returns
 returns c =
     let a = c .before .before .before .before .args in
     let e : 256 * (length (a .x .now) / 256) ≡ length (a .x .now) = omega arith in
     c .before .whole-blocks .ensures ∙ ap (lanes (terms (a .format) (a .x .now) (a .w .now))) e
-
-block-bytes-requires : tie.Need-block-bytes-requires
-block-bytes-requires c κs = search needs
-
-mul-at : tie.Need-mul-at
-mul-at c = search needs
 
 -- the last block lies within the bytes
 room : (c : tie.After-block-bytes)
@@ -40,29 +31,8 @@ mul-from c = omega (arith, room c)
 add-to : tie.Need-add-to
 add-to c = omega (arith, room c)
 
-mul-add-short : tie.Need-mul-add-short
-mul-add-short c = search needs
-
-sub-add-short : tie.Need-sub-add-short
-sub-add-short c = search needs
-
-part-add-short-start : tie.Need-part-add-short-start
-part-add-short-start c = search needs
-
-part-add-short-end : tie.Need-part-add-short-end
-part-add-short-end c = search needs
-
-sub-add-short-2 : tie.Need-sub-add-short-2
-sub-add-short-2 c = search needs
-
-part-add-short-start-2 : tie.Need-part-add-short-start-2
-part-add-short-start-2 c = search needs
-
 part-add-short-end-2 : tie.Need-part-add-short-end-2
 part-add-short-end-2 c = omega (arith, room (c .before))
-
-add-short-requires : tie.Need-add-short-requires
-add-short-requires c κs = search needs
 
 returns-2 : tie.Need-returns-2
 unfolding lanes
@@ -81,18 +51,18 @@ pub all-blocks-spec : {M : Type 1} → statement M
 all-blocks-spec =
     tie.close
     (tie.spec
-    whole-blocks-requires
+    (λ c κs. search needs)
     returns
-    block-bytes-requires
-    mul-at
+    (λ c κs. search needs)
+    (λ c. search needs)
     mul-from
     add-to
-    mul-add-short
-    sub-add-short
-    part-add-short-start
-    part-add-short-end
-    sub-add-short-2
-    part-add-short-start-2
+    (λ c. search needs)
+    (λ c. search needs)
+    (λ c. search needs)
+    (λ c. search needs)
+    (λ c. search needs)
+    (λ c. search needs)
     part-add-short-end-2
-    add-short-requires
+    (λ c κs. search needs)
     returns-2)

@@ -16,15 +16,6 @@ use borrow.Author.Needs.{needs}
 use Rattle.dots_fused_chunk.proofs.chunk.chunk_dot.Statement.{statement}
 use Rattle.dots_fused_chunk.proofs.chunk.chunk_dot.Tie as tie
 
-mul-s : tie.Need-mul-s
-mul-s c = search needs
-
-chunk-end-requires : tie.Need-chunk-end-requires
-chunk-end-requires c κs = search needs
-
-block-bytes-requires : tie.Need-block-bytes-requires
-block-bytes-requires c κs = search needs
-
 -- what the row has left from the chunk's first block on lies within the bytes from there on
 room : (c : tie.After-block-bytes)
     → (let t = c .before .before .before .before in
@@ -38,26 +29,11 @@ room c =
 mul-from : tie.Need-mul-from
 mul-from c = omega (arith, room c)
 
-mul-all-blocks : tie.Need-mul-all-blocks
-mul-all-blocks c = search needs
-
-sub-all-blocks : tie.Need-sub-all-blocks
-sub-all-blocks c = search needs
-
-part-all-blocks-start : tie.Need-part-all-blocks-start
-part-all-blocks-start c = search needs
-
-part-all-blocks-end : tie.Need-part-all-blocks-end
-part-all-blocks-end c = search needs
-
 sub-all-blocks-2 : tie.Need-sub-all-blocks-2
 sub-all-blocks-2 c = omega (arith, room (c .before))
 
 part-all-blocks-start-2 : tie.Need-part-all-blocks-start-2
 part-all-blocks-start-2 c = omega (arith, room (c .before))
-
-part-all-blocks-end-2 : tie.Need-part-all-blocks-end-2
-part-all-blocks-end-2 c = search needs
 
 all-blocks-requires : tie.Need-all-blocks-requires
 all-blocks-requires c κs =
@@ -66,9 +42,6 @@ all-blocks-requires c κs =
     let from = 8192 * t .args .c / 256 * d .block-bytes .result in
     let r = room d in
     rw (part-length (t .args .w .now) from (length (t .args .w .now) - from) (length (t .args .w .now)) (omega arith) (le-refl _)) (omega (arith, r .1))
-
-tree8-requires : tie.Need-tree8-requires
-tree8-requires c κs = search needs
 
 returns : tie.Need-returns
 unfolding chunkSum
@@ -85,17 +58,17 @@ pub chunk-dot-spec : {M : Type 1} → statement M
 chunk-dot-spec =
     tie.close
     (tie.spec
-    mul-s
-    chunk-end-requires
-    block-bytes-requires
+    (λ c. search needs)
+    (λ c κs. search needs)
+    (λ c κs. search needs)
     mul-from
-    mul-all-blocks
-    sub-all-blocks
-    part-all-blocks-start
-    part-all-blocks-end
+    (λ c. search needs)
+    (λ c. search needs)
+    (λ c. search needs)
+    (λ c. search needs)
     sub-all-blocks-2
     part-all-blocks-start-2
-    part-all-blocks-end-2
+    (λ c. search needs)
     all-blocks-requires
-    tree8-requires
+    (λ c κs. search needs)
     returns)

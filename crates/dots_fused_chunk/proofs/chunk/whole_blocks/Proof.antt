@@ -17,17 +17,8 @@ Inv-loop format x w size count out₀ b₀ out b = Grown out₀ (terms format x 
 abbrev μ-loop : tie.MeasureT-loop
 μ-loop format x w size count out₀ b₀ out b = length x / 256 - b
 
-block-bytes-requires : tie.Need-block-bytes-requires Inv-loop μ-loop
-block-bytes-requires c κs = search needs
-
 loop-holds : tie.Need-loop-holds Inv-loop μ-loop
 loop-holds c = (omega arith, lanes-none _ _)
-
-mul-at : tie.Need-mul-at Inv-loop μ-loop
-mul-at c = omega arith
-
-add-end : tie.Need-add-end Inv-loop μ-loop
-add-end c = omega arith
 
 -- block b lies within the bytes
 room : (c : tie.In-loop Inv-loop μ-loop)
@@ -43,35 +34,8 @@ mul-from c = omega (arith, room c)
 add-to : tie.Need-add-to Inv-loop μ-loop
 add-to c = omega (arith, room c)
 
-mul-add-block : tie.Need-mul-add-block Inv-loop μ-loop
-mul-add-block c = omega arith
-
-sub-add-block : tie.Need-sub-add-block Inv-loop μ-loop
-sub-add-block c = omega arith
-
-part-add-block-start : tie.Need-part-add-block-start Inv-loop μ-loop
-part-add-block-start c = omega arith
-
-part-add-block-end : tie.Need-part-add-block-end Inv-loop μ-loop
-part-add-block-end c = omega arith
-
-sub-add-block-2 : tie.Need-sub-add-block-2 Inv-loop μ-loop
-sub-add-block-2 c = omega arith
-
-part-add-block-start-2 : tie.Need-part-add-block-start-2 Inv-loop μ-loop
-part-add-block-start-2 c = omega arith
-
 part-add-block-end-2 : tie.Need-part-add-block-end-2 Inv-loop μ-loop
 part-add-block-end-2 c = omega (arith, room (c .before))
-
-add-block-requires : tie.Need-add-block-requires Inv-loop μ-loop
-add-block-requires c κs = omega arith
-
-add-b : tie.Need-add-b Inv-loop μ-loop
-add-b c = omega arith
-
-loop-less : tie.Need-loop-less Inv-loop μ-loop
-loop-less c = omega arith
 
 loop-again : tie.Need-loop-again Inv-loop μ-loop
 loop-again c =
@@ -95,21 +59,21 @@ whole-blocks-spec =
     (tie.spec
     Inv-loop
     μ-loop
-    block-bytes-requires
+    (λ c κs. search needs)
     loop-holds
-    mul-at
-    add-end
+    (λ c. omega arith)
+    (λ c. omega arith)
     mul-from
     add-to
-    mul-add-block
-    sub-add-block
-    part-add-block-start
-    part-add-block-end
-    sub-add-block-2
-    part-add-block-start-2
+    (λ c. omega arith)
+    (λ c. omega arith)
+    (λ c. omega arith)
+    (λ c. omega arith)
+    (λ c. omega arith)
+    (λ c. omega arith)
     part-add-block-end-2
-    add-block-requires
-    add-b
-    loop-less
+    (λ c κs. omega arith)
+    (λ c. omega arith)
+    (λ c. omega arith)
     loop-again
     returns)

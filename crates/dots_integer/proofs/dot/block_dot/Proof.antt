@@ -14,9 +14,6 @@ use Rattle.dots_integer.proofs.Bounds.{five-bits}
 use Rattle.dots_integer.proofs.dot.block_dot.Statement.{statement}
 use Rattle.dots_integer.proofs.dot.block_dot.Tie as tie
 
-enum-told : tie.Need-enum-told
-enum-told c = search needs
-
 quants-q4k-requires : tie.Need-quants-q4k-requires
 quants-q4k-requires c κs = c .before .before .before .pre .0 ∙ ap bytesK (c .enum-told .given .1)
 
@@ -28,9 +25,6 @@ dot-of-sub-blocks-requires c κs =
     let a = c .before .before .before .before .before .args in
     let small = five-bits (a .w .now) (λ i. c .before .before .before .before .shared-slice-known .given i .fits) (q .result) (q .ensures) in
     (omega (arith, p .0 ∙ ap bytesK e), small, p .1, p .2, p .3 (ap hasMinimums e))
-
-enum-told-2 : tie.Need-enum-told-2
-enum-told-2 c = search needs
 
 quants-q6k-requires : tie.Need-quants-q6k-requires
 quants-q6k-requires c κs = c .before .before .before .pre .0 ∙ ap bytesK (c .enum-told2 .given .1)
@@ -64,10 +58,10 @@ pub block-dot-spec : {M : Type 1} → statement M
 block-dot-spec =
     tie.close
     (tie.spec
-    enum-told
+    (λ c. search needs)
     quants-q4k-requires
     dot-of-sub-blocks-requires
-    enum-told-2
+    (λ c. search needs)
     quants-q6k-requires
     dot-of-runs-requires
     returns

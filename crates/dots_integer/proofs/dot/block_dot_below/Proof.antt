@@ -17,9 +17,6 @@ returns c =
     let e : 256 ≡ min (a .n) 256 = omega arith in
     c .block-dot .ensures ∙ ap (blockDot (a .format) (a .w .now) (a .d) (a .qs .now) (a .sums .now)) e
 
-cut-requires : tie.Need-cut-requires
-cut-requires c κs = search needs
-
 slice-aggregate-block-dot : tie.Need-slice-aggregate-block-dot
 slice-aggregate-block-dot c = search needs
 
@@ -41,7 +38,7 @@ block-dot-below-spec =
     (tie.spec
     block-dot-requires
     returns
-    cut-requires
+    (λ c κs. search needs)
     slice-aggregate-block-dot
     block-dot-requires-2
     returns-2)

@@ -7,15 +7,6 @@ use borrow.Author.Needs.{needs}
 use Rattle.dots_integer.proofs.dot.dot_of_runs.Statement.{statement}
 use Rattle.dots_integer.proofs.dot.dot_of_runs.Tie as tie
 
-half-at-requires : tie.Need-half-at-requires
-half-at-requires c κs = search needs
-
-sum-by-runs-requires : tie.Need-sum-by-runs-requires
-sum-by-runs-requires c κs = search needs
-
-whole-to-f32-requires : tie.Need-whole-to-f32-requires
-whole-to-f32-requires c κs = search needs
-
 returns : tie.Need-returns
 returns c =
     let b = c .before in
@@ -24,4 +15,4 @@ returns c =
 
 pub dot-of-runs-spec : {M : Type 1} → statement M
 dot-of-runs-spec =
-    tie.close (tie.spec half-at-requires sum-by-runs-requires whole-to-f32-requires returns)
+    tie.close (tie.spec (λ c κs. search needs) (λ c κs. search needs) (λ c κs. search needs) returns)

@@ -7,24 +7,6 @@ use borrow.Author.Needs.{needs}
 use Rattle.dots_integer.proofs.dot.dot_of_sub_blocks.Statement.{statement}
 use Rattle.dots_integer.proofs.dot.dot_of_sub_blocks.Tie as tie
 
-half-at-requires : tie.Need-half-at-requires
-half-at-requires c κs = search needs
-
-half-at-requires-2 : tie.Need-half-at-requires-2
-half-at-requires-2 c κs = search needs
-
-minimum-sum-requires : tie.Need-minimum-sum-requires
-minimum-sum-requires c κs = search needs
-
-whole-to-f32-requires : tie.Need-whole-to-f32-requires
-whole-to-f32-requires c κs = search needs
-
-sum-by-sub-blocks-requires : tie.Need-sum-by-sub-blocks-requires
-sum-by-sub-blocks-requires c κs = search needs
-
-whole-to-f32-requires-2 : tie.Need-whole-to-f32-requires-2
-whole-to-f32-requires-2 c κs = search needs
-
 returns : tie.Need-returns
 returns c =
     let a = c .before in
@@ -38,10 +20,10 @@ pub dot-of-sub-blocks-spec : {M : Type 1} → statement M
 dot-of-sub-blocks-spec =
     tie.close
     (tie.spec
-    half-at-requires
-    half-at-requires-2
-    minimum-sum-requires
-    whole-to-f32-requires
-    sum-by-sub-blocks-requires
-    whole-to-f32-requires-2
+    (λ c κs. search needs)
+    (λ c κs. search needs)
+    (λ c κs. search needs)
+    (λ c κs. search needs)
+    (λ c κs. search needs)
+    (λ c κs. search needs)
     returns)

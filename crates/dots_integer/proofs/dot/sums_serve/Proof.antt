@@ -8,15 +8,6 @@ use Rattle.dots_integer.specs.Dots.{sumsServe}
 use Rattle.dots_integer.proofs.dot.sums_serve.Statement.{statement}
 use Rattle.dots_integer.proofs.dot.sums_serve.Tie as tie
 
-enum-told : tie.Need-enum-told
-enum-told c = search needs
-
-sums-right-requires : tie.Need-sums-right-requires
-sums-right-requires c κs = search needs
-
-enum-told-2 : tie.Need-enum-told-2
-enum-told-2 c = search needs
-
 returns : tie.Need-returns
 returns c =
     let r = c .sums-right .ensures in
@@ -30,4 +21,4 @@ returns-2 c =
     (ap (λ (f : FormatK). sumsServe f (a .qs .now) (a .sums .now)) e, λ _ h. absurd (false≢true (ap hasMinimums e ∙ h)))
 
 pub sums-serve-spec : {M : Type 1} → statement M
-sums-serve-spec = tie.close (tie.spec enum-told sums-right-requires enum-told-2 returns returns-2)
+sums-serve-spec = tie.close (tie.spec (λ c. search needs) (λ c κs. search needs) (λ c. search needs) returns returns-2)

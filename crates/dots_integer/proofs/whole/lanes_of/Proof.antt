@@ -36,15 +36,6 @@ loop-holds : tie.Need-loop-holds Inv-loop2 μ-loop2 Inv-loop μ-loop
 unfolding sumℤ table
 loop-holds c = (omega arith, refl, below-none _)
 
-scale-q4k-requires : tie.Need-scale-q4k-requires Inv-loop2 μ-loop2 Inv-loop μ-loop
-scale-q4k-requires c κs = omega arith
-
-mul-low : tie.Need-mul-low Inv-loop2 μ-loop2 Inv-loop μ-loop
-mul-low c = omega arith
-
-add-high : tie.Need-add-high Inv-loop2 μ-loop2 Inv-loop μ-loop
-add-high c = omega arith
-
 -- as many lanes as before
 long : (c : tie.At-loop Inv-loop2 μ-loop2 Inv-loop μ-loop) → length (c .loop .lanes) ≡ 8
 long c = ap length (c .loop .inv .1) ∙ length-table _ 8
@@ -52,21 +43,9 @@ long c = ap length (c .loop .inv .1) ∙ length-table _ 8
 loop2-holds : tie.Need-loop2-holds Inv-loop2 μ-loop2 Inv-loop μ-loop
 loop2-holds c = filling-start _ _ 8 (long (c .before .before))
 
-add-weighed-pairs : tie.Need-add-weighed-pairs Inv-loop2 μ-loop2 Inv-loop μ-loop
-add-weighed-pairs c = omega arith
-
-mul-weighed-pairs : tie.Need-mul-weighed-pairs Inv-loop2 μ-loop2 Inv-loop μ-loop
-mul-weighed-pairs c = omega arith
-
 element-copy-out-weighed-pairs :
     tie.Need-element-copy-out-weighed-pairs Inv-loop2 μ-loop2 Inv-loop μ-loop
 element-copy-out-weighed-pairs c = omega arith
-
-add-weighed-pairs-2 : tie.Need-add-weighed-pairs-2 Inv-loop2 μ-loop2 Inv-loop μ-loop
-add-weighed-pairs-2 c = omega arith
-
-mul-weighed-pairs-2 : tie.Need-mul-weighed-pairs-2 Inv-loop2 μ-loop2 Inv-loop μ-loop
-mul-weighed-pairs-2 c = omega arith
 
 element-copy-out-weighed-pairs-2 :
     tie.Need-element-copy-out-weighed-pairs-2 Inv-loop2 μ-loop2 Inv-loop μ-loop
@@ -80,12 +59,6 @@ weighed-pairs-requires c κs =
       subst (Within 7936) (sym (read-is w16 _ (c .before .weighed-pairs-arg .given))) (n _ (omega arith)),
       subst (Within 7936) (sym (read-is w16 _ (c .weighed-pairs-arg2 .given))) (n _ (omega arith)),
     )
-
-mul-lanes : tie.Need-mul-lanes Inv-loop2 μ-loop2 Inv-loop μ-loop
-mul-lanes c = omega arith
-
-array-copy-out-lanes : tie.Need-array-copy-out-lanes Inv-loop2 μ-loop2 Inv-loop μ-loop
-array-copy-out-lanes c = omega arith
 
 -- lane l, to which sub-block j comes
 module _ (c : tie.After-lanes Inv-loop2 μ-loop2 Inv-loop μ-loop) where
@@ -126,15 +99,6 @@ module _ (c : tie.After-lanes Inv-loop2 μ-loop2 Inv-loop μ-loop) where
 add-lanes : tie.Need-add-lanes Inv-loop2 μ-loop2 Inv-loop μ-loop
 add-lanes c = both-fit w32 (c .lanes .given) (c .before .weighed-pairs .ok) (lane-near c) (c .before .weighed-pairs .ensures .1) tt
 
-array-set-from-lanes : tie.Need-array-set-from-lanes Inv-loop2 μ-loop2 Inv-loop μ-loop
-array-set-from-lanes c = omega arith
-
-add-l : tie.Need-add-l Inv-loop2 μ-loop2 Inv-loop μ-loop
-add-l c = omega arith
-
-loop2-less : tie.Need-loop2-less Inv-loop2 μ-loop2 Inv-loop μ-loop
-loop2-less c = omega arith
-
 loop2-again : tie.Need-loop2-again Inv-loop2 μ-loop2 Inv-loop μ-loop
 loop2-again c =
     let d = in-lane c in
@@ -146,12 +110,6 @@ loop2-again c =
     ∙ ap (λ (z : ℤ). z +ℤ r .result) (lane-is c)
     ∙ ap (λ (z : ℤ). sumℤ (laneTerm (w c) (p c) (d .loop2 .l)) (o .loop .j) +ℤ z) (term-is c)
     ∙ sym (sum-more (laneTerm (w c) (p c) (d .loop2 .l)) (o .loop .j)))
-
-add-j : tie.Need-add-j Inv-loop2 μ-loop2 Inv-loop μ-loop
-add-j c = omega arith
-
-loop-less : tie.Need-loop-less Inv-loop2 μ-loop2 Inv-loop μ-loop
-loop-less c = omega arith
 
 loop-again : tie.Need-loop-again Inv-loop2 μ-loop2 Inv-loop μ-loop
 loop-again c =
@@ -179,25 +137,25 @@ lanes-of-spec =
     Inv-loop
     μ-loop
     loop-holds
-    scale-q4k-requires
-    mul-low
-    add-high
+    (λ c κs. omega arith)
+    (λ c. omega arith)
+    (λ c. omega arith)
     loop2-holds
-    add-weighed-pairs
-    mul-weighed-pairs
+    (λ c. omega arith)
+    (λ c. omega arith)
     element-copy-out-weighed-pairs
-    add-weighed-pairs-2
-    mul-weighed-pairs-2
+    (λ c. omega arith)
+    (λ c. omega arith)
     element-copy-out-weighed-pairs-2
     weighed-pairs-requires
-    mul-lanes
-    array-copy-out-lanes
+    (λ c. omega arith)
+    (λ c. omega arith)
     add-lanes
-    array-set-from-lanes
-    add-l
-    loop2-less
+    (λ c. omega arith)
+    (λ c. omega arith)
+    (λ c. omega arith)
     loop2-again
-    add-j
-    loop-less
+    (λ c. omega arith)
+    (λ c. omega arith)
     loop-again
     returns)

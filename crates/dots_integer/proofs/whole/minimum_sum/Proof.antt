@@ -22,17 +22,8 @@ abbrev μ-loop : tie.MeasureT-loop
 loop-holds : tie.Need-loop-holds Inv-loop μ-loop
 loop-holds c = (omega arith, acc-none w32 _ 133693440)
 
-minimum-q4k-requires : tie.Need-minimum-q4k-requires Inv-loop μ-loop
-minimum-q4k-requires c κs = omega arith
-
 cast-weighed : tie.Need-cast-weighed Inv-loop μ-loop
 cast-weighed c = record { sfits = omega (arith, c .minimum-q4k .ensures .1) }
-
-mul-weighed : tie.Need-mul-weighed Inv-loop μ-loop
-mul-weighed c = omega arith
-
-shared-slice-copy-out-weighed : tie.Need-shared-slice-copy-out-weighed Inv-loop μ-loop
-shared-slice-copy-out-weighed c = omega arith
 
 weighed-requires : tie.Need-weighed-requires Inv-loop μ-loop
 weighed-requires c κs =
@@ -54,12 +45,6 @@ turn c =
 add-m : tie.Need-add-m Inv-loop μ-loop
 add-m c = call-fits 8 (c .before .before .before .before .loop .inv .1) (c .weighed .ok) (turn c) (c .weighed .ensures .1) (omega arith) tt
 
-add-j : tie.Need-add-j Inv-loop μ-loop
-add-j c = omega arith
-
-loop-less : tie.Need-loop-less Inv-loop μ-loop
-loop-less c = omega arith
-
 loop-again : tie.Need-loop-again Inv-loop μ-loop
 loop-again c = (omega arith, call-more 8 (c .before .before .before .before .loop .inv .1) (c .weighed .ok) (turn c) (c .weighed .ensures .1) (omega arith) tt)
 
@@ -73,13 +58,13 @@ minimum-sum-spec =
     Inv-loop
     μ-loop
     loop-holds
-    minimum-q4k-requires
+    (λ c κs. omega arith)
     cast-weighed
-    mul-weighed
-    shared-slice-copy-out-weighed
+    (λ c. omega arith)
+    (λ c. omega arith)
     weighed-requires
     add-m
-    add-j
-    loop-less
+    (λ c. omega arith)
+    (λ c. omega arith)
     loop-again
     returns)

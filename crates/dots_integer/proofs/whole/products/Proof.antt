@@ -22,122 +22,26 @@ loop-holds c = streamed-none (pairOf (productAt (c .args .q .now) (c .args .x .n
 products-at-requires : tie.Need-products-at-requires Inv-loop μ-loop
 products-at-requires c κs = let p = c .before .before .pre in (p .0, p .1, omega arith)
 
-mul-p : tie.Need-mul-p Inv-loop μ-loop
-mul-p c = omega arith
-
-array-set-from-p : tie.Need-array-set-from-p Inv-loop μ-loop
-array-set-from-p c = omega arith
-
-add-products-at : tie.Need-add-products-at Inv-loop μ-loop
-add-products-at c = omega arith
-
 products-at-requires-2 : tie.Need-products-at-requires-2 Inv-loop μ-loop
 products-at-requires-2 c κs = let p = c .before .before .before .pre in (p .0, p .1, omega arith)
-
-add-p : tie.Need-add-p Inv-loop μ-loop
-add-p c = omega arith
-
-mul-p-2 : tie.Need-mul-p-2 Inv-loop μ-loop
-mul-p-2 c = omega arith
-
-array-set-from-p-2 : tie.Need-array-set-from-p-2 Inv-loop μ-loop
-array-set-from-p-2 c = omega arith
-
-add-products-at-2 : tie.Need-add-products-at-2 Inv-loop μ-loop
-add-products-at-2 c = omega arith
 
 products-at-requires-3 : tie.Need-products-at-requires-3 Inv-loop μ-loop
 products-at-requires-3 c κs = let p = c .before .before .before .before .pre in (p .0, p .1, omega arith)
 
-add-p-2 : tie.Need-add-p-2 Inv-loop μ-loop
-add-p-2 c = omega arith
-
-mul-p-3 : tie.Need-mul-p-3 Inv-loop μ-loop
-mul-p-3 c = omega arith
-
-array-set-from-p-3 : tie.Need-array-set-from-p-3 Inv-loop μ-loop
-array-set-from-p-3 c = omega arith
-
-add-products-at-3 : tie.Need-add-products-at-3 Inv-loop μ-loop
-add-products-at-3 c = omega arith
-
 products-at-requires-4 : tie.Need-products-at-requires-4 Inv-loop μ-loop
 products-at-requires-4 c κs = let p = c .before .before .before .before .before .pre in (p .0, p .1, omega arith)
-
-add-p-3 : tie.Need-add-p-3 Inv-loop μ-loop
-add-p-3 c = omega arith
-
-mul-p-4 : tie.Need-mul-p-4 Inv-loop μ-loop
-mul-p-4 c = omega arith
-
-array-set-from-p-4 : tie.Need-array-set-from-p-4 Inv-loop μ-loop
-array-set-from-p-4 c = omega arith
-
-add-products-at-4 : tie.Need-add-products-at-4 Inv-loop μ-loop
-add-products-at-4 c = omega arith
 
 products-at-requires-5 : tie.Need-products-at-requires-5 Inv-loop μ-loop
 products-at-requires-5 c κs = let p = c .before .before .before .before .before .before .pre in (p .0, p .1, omega arith)
 
-add-p-4 : tie.Need-add-p-4 Inv-loop μ-loop
-add-p-4 c = omega arith
-
-mul-p-5 : tie.Need-mul-p-5 Inv-loop μ-loop
-mul-p-5 c = omega arith
-
-array-set-from-p-5 : tie.Need-array-set-from-p-5 Inv-loop μ-loop
-array-set-from-p-5 c = omega arith
-
-add-products-at-5 : tie.Need-add-products-at-5 Inv-loop μ-loop
-add-products-at-5 c = omega arith
-
 products-at-requires-6 : tie.Need-products-at-requires-6 Inv-loop μ-loop
 products-at-requires-6 c κs = let p = c .before .before .before .before .before .before .before .pre in (p .0, p .1, omega arith)
-
-add-p-5 : tie.Need-add-p-5 Inv-loop μ-loop
-add-p-5 c = omega arith
-
-mul-p-6 : tie.Need-mul-p-6 Inv-loop μ-loop
-mul-p-6 c = omega arith
-
-array-set-from-p-6 : tie.Need-array-set-from-p-6 Inv-loop μ-loop
-array-set-from-p-6 c = omega arith
-
-add-products-at-6 : tie.Need-add-products-at-6 Inv-loop μ-loop
-add-products-at-6 c = omega arith
 
 products-at-requires-7 : tie.Need-products-at-requires-7 Inv-loop μ-loop
 products-at-requires-7 c κs = let p = c .before .before .before .before .before .before .before .before .pre in (p .0, p .1, omega arith)
 
-add-p-6 : tie.Need-add-p-6 Inv-loop μ-loop
-add-p-6 c = omega arith
-
-mul-p-7 : tie.Need-mul-p-7 Inv-loop μ-loop
-mul-p-7 c = omega arith
-
-array-set-from-p-7 : tie.Need-array-set-from-p-7 Inv-loop μ-loop
-array-set-from-p-7 c = omega arith
-
-add-products-at-7 : tie.Need-add-products-at-7 Inv-loop μ-loop
-add-products-at-7 c = omega arith
-
 products-at-requires-8 : tie.Need-products-at-requires-8 Inv-loop μ-loop
 products-at-requires-8 c κs = let p = c .before .before .before .before .before .before .before .before .before .pre in (p .0, p .1, omega arith)
-
-add-p-7 : tie.Need-add-p-7 Inv-loop μ-loop
-add-p-7 c = omega arith
-
-mul-p-8 : tie.Need-mul-p-8 Inv-loop μ-loop
-mul-p-8 c = omega arith
-
-array-set-from-p-8 : tie.Need-array-set-from-p-8 Inv-loop μ-loop
-array-set-from-p-8 c = omega arith
-
-add-l : tie.Need-add-l Inv-loop μ-loop
-add-l c = omega arith
-
-loop-less : tie.Need-loop-less Inv-loop μ-loop
-loop-less c = omega arith
 
 loop-again : tie.Need-loop-again Inv-loop μ-loop
 loop-again c =
@@ -177,44 +81,44 @@ products-spec =
     μ-loop
     loop-holds
     products-at-requires
-    mul-p
-    array-set-from-p
-    add-products-at
+    (λ c. omega arith)
+    (λ c. omega arith)
+    (λ c. omega arith)
     products-at-requires-2
-    add-p
-    mul-p-2
-    array-set-from-p-2
-    add-products-at-2
+    (λ c. omega arith)
+    (λ c. omega arith)
+    (λ c. omega arith)
+    (λ c. omega arith)
     products-at-requires-3
-    add-p-2
-    mul-p-3
-    array-set-from-p-3
-    add-products-at-3
+    (λ c. omega arith)
+    (λ c. omega arith)
+    (λ c. omega arith)
+    (λ c. omega arith)
     products-at-requires-4
-    add-p-3
-    mul-p-4
-    array-set-from-p-4
-    add-products-at-4
+    (λ c. omega arith)
+    (λ c. omega arith)
+    (λ c. omega arith)
+    (λ c. omega arith)
     products-at-requires-5
-    add-p-4
-    mul-p-5
-    array-set-from-p-5
-    add-products-at-5
+    (λ c. omega arith)
+    (λ c. omega arith)
+    (λ c. omega arith)
+    (λ c. omega arith)
     products-at-requires-6
-    add-p-5
-    mul-p-6
-    array-set-from-p-6
-    add-products-at-6
+    (λ c. omega arith)
+    (λ c. omega arith)
+    (λ c. omega arith)
+    (λ c. omega arith)
     products-at-requires-7
-    add-p-6
-    mul-p-7
-    array-set-from-p-7
-    add-products-at-7
+    (λ c. omega arith)
+    (λ c. omega arith)
+    (λ c. omega arith)
+    (λ c. omega arith)
     products-at-requires-8
-    add-p-7
-    mul-p-8
-    array-set-from-p-8
-    add-l
-    loop-less
+    (λ c. omega arith)
+    (λ c. omega arith)
+    (λ c. omega arith)
+    (λ c. omega arith)
+    (λ c. omega arith)
     loop-again
     returns)

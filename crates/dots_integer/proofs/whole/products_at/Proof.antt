@@ -8,24 +8,6 @@ use Rattle.dots_activation.specs.Whole.{Within}
 use Rattle.dots_integer.proofs.whole.products_at.Statement.{statement}
 use Rattle.dots_integer.proofs.whole.products_at.Tie as tie
 
-element-copy-out-two-products : tie.Need-element-copy-out-two-products
-element-copy-out-two-products c = search needs
-
-shared-slice-copy-out-two-products : tie.Need-shared-slice-copy-out-two-products
-shared-slice-copy-out-two-products c = search needs
-
-add-two-products : tie.Need-add-two-products
-add-two-products c = search needs
-
-element-copy-out-two-products-2 : tie.Need-element-copy-out-two-products-2
-element-copy-out-two-products-2 c = search needs
-
-add-two-products-2 : tie.Need-add-two-products-2
-add-two-products-2 c = search needs
-
-shared-slice-copy-out-two-products-2 : tie.Need-shared-slice-copy-out-two-products-2
-shared-slice-copy-out-two-products-2 c = search needs
-
 two-products-requires : tie.Need-two-products-requires
 two-products-requires c κs = let p = c .before .before .before .before .pre in (p .0 .small _ (omega arith), p .0 .small _ (omega arith))
 
@@ -39,11 +21,11 @@ pub products-at-spec : {M : Type 1} → statement M
 products-at-spec =
     tie.close
     (tie.spec
-    element-copy-out-two-products
-    shared-slice-copy-out-two-products
-    add-two-products
-    element-copy-out-two-products-2
-    add-two-products-2
-    shared-slice-copy-out-two-products-2
+    (λ c. search needs)
+    (λ c. search needs)
+    (λ c. search needs)
+    (λ c. search needs)
+    (λ c. search needs)
+    (λ c. search needs)
     two-products-requires
     returns)

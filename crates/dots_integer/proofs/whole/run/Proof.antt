@@ -17,23 +17,8 @@ Inv-loop q x e from s₀ l₀ s l = (l ≤ 16) × Acc w32 (λ (i : ℕ). elem q 
 abbrev μ-loop : tie.MeasureT-loop
 μ-loop q x e from s₀ l₀ s l = 16 - l
 
-mul-from : tie.Need-mul-from Inv-loop μ-loop
-mul-from c = omega arith
-
 loop-holds : tie.Need-loop-holds Inv-loop μ-loop
 loop-holds c = (omega arith, acc-none w32 _ 16384)
-
-add-product : tie.Need-add-product Inv-loop μ-loop
-add-product c = omega arith
-
-element-copy-out-product : tie.Need-element-copy-out-product Inv-loop μ-loop
-element-copy-out-product c = omega arith
-
-add-product-2 : tie.Need-add-product-2 Inv-loop μ-loop
-add-product-2 c = omega arith
-
-shared-slice-copy-out-product : tie.Need-shared-slice-copy-out-product Inv-loop μ-loop
-shared-slice-copy-out-product c = omega arith
 
 product-requires : tie.Need-product-requires Inv-loop μ-loop
 product-requires c κs = tt
@@ -48,12 +33,6 @@ turn c = rw (read-is w8 _ (c .before .before .product-arg .given), read-is w8 _ 
 add-s : tie.Need-add-s Inv-loop μ-loop
 add-s c = call-fits 16 (c .before .before .before .before .loop .inv .1) (c .product .ok) (turn c) (c .product .ensures .1) (omega arith) tt
 
-add-l : tie.Need-add-l Inv-loop μ-loop
-add-l c = omega arith
-
-loop-less : tie.Need-loop-less Inv-loop μ-loop
-loop-less c = omega arith
-
 loop-again : tie.Need-loop-again Inv-loop μ-loop
 loop-again c = (omega arith, call-more 16 (c .before .before .before .before .loop .inv .1) (c .product .ok) (turn c) (c .product .ensures .1) (omega arith) tt)
 
@@ -66,15 +45,15 @@ run-spec =
     (tie.spec
     Inv-loop
     μ-loop
-    mul-from
+    (λ c. omega arith)
     loop-holds
-    add-product
-    element-copy-out-product
-    add-product-2
-    shared-slice-copy-out-product
+    (λ c. omega arith)
+    (λ c. omega arith)
+    (λ c. omega arith)
+    (λ c. omega arith)
     product-requires
     add-s
-    add-l
-    loop-less
+    (λ c. omega arith)
+    (λ c. omega arith)
     loop-again
     returns)

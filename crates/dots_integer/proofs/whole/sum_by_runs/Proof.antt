@@ -22,17 +22,8 @@ abbrev μ-loop : tie.MeasureT-loop
 loop-holds : tie.Need-loop-holds Inv-loop μ-loop
 loop-holds c = (omega arith, acc-none w32 _ 133693440)
 
-add-signed-byte : tie.Need-add-signed-byte Inv-loop μ-loop
-add-signed-byte c = omega arith
-
-shared-slice-read-signed-byte : tie.Need-shared-slice-read-signed-byte Inv-loop μ-loop
-shared-slice-read-signed-byte c = omega arith
-
 signed-byte-requires : tie.Need-signed-byte-requires Inv-loop μ-loop
 signed-byte-requires c κs = tt
-
-run-requires : tie.Need-run-requires Inv-loop μ-loop
-run-requires c κs = omega arith
 
 weighed-requires : tie.Need-weighed-requires Inv-loop μ-loop
 weighed-requires c κs = rw (read-is w32 _ (c .run .ok)) (c .run .ensures .1)
@@ -55,12 +46,6 @@ turn c =
 add-a : tie.Need-add-a Inv-loop μ-loop
 add-a c = call-fits 16 (c .before .before .before .before .before .loop .inv .1) (c .weighed .ok) (turn c) (c .weighed .ensures .1) (omega arith) tt
 
-add-e : tie.Need-add-e Inv-loop μ-loop
-add-e c = omega arith
-
-loop-less : tie.Need-loop-less Inv-loop μ-loop
-loop-less c = omega arith
-
 loop-again : tie.Need-loop-again Inv-loop μ-loop
 loop-again c = (omega arith, call-more 16 (c .before .before .before .before .before .loop .inv .1) (c .weighed .ok) (turn c) (c .weighed .ensures .1) (omega arith) tt)
 
@@ -76,13 +61,13 @@ sum-by-runs-spec =
     Inv-loop
     μ-loop
     loop-holds
-    add-signed-byte
-    shared-slice-read-signed-byte
+    (λ c. omega arith)
+    (λ c. omega arith)
     signed-byte-requires
-    run-requires
+    (λ c κs. omega arith)
     weighed-requires
     add-a
-    add-e
-    loop-less
+    (λ c. omega arith)
+    (λ c. omega arith)
     loop-again
     returns)

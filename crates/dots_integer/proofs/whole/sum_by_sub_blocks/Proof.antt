@@ -7,15 +7,6 @@ use Rattle.dots_integer.proofs.Lanes.{lanes-sum}
 use Rattle.dots_integer.proofs.whole.sum_by_sub_blocks.Statement.{statement}
 use Rattle.dots_integer.proofs.whole.sum_by_sub_blocks.Tie as tie
 
-products-requires : tie.Need-products-requires
-products-requires c κs = search needs
-
-lanes-of-requires : tie.Need-lanes-of-requires
-lanes-of-requires c κs = search needs
-
-sum-of-lanes-requires : tie.Need-sum-of-lanes-requires
-sum-of-lanes-requires c κs = search needs
-
 returns : tie.Need-returns
 returns c =
     let l = c .before .before .lanes-of in
@@ -25,4 +16,4 @@ returns c =
 
 pub sum-by-sub-blocks-spec : {M : Type 1} → statement M
 sum-by-sub-blocks-spec =
-    tie.close (tie.spec products-requires lanes-of-requires sum-of-lanes-requires returns)
+    tie.close (tie.spec (λ c κs. search needs) (λ c κs. search needs) (λ c κs. search needs) returns)

@@ -17,20 +17,8 @@ abbrev μ-loop : tie.MeasureT-loop
 loop-holds : tie.Need-loop-holds Inv-loop μ-loop
 loop-holds c = (omega arith, acc-none w32 _ 7999488)
 
-mul-a : tie.Need-mul-a Inv-loop μ-loop
-mul-a c = omega arith
-
-element-copy-out-a : tie.Need-element-copy-out-a Inv-loop μ-loop
-element-copy-out-a c = omega arith
-
 add-a : tie.Need-add-a Inv-loop μ-loop
 add-a c = let b = c .before .before in acc-fits 8 (b .loop .inv .1) (read-is w32 _ (c .a .given)) (b .before .pre .near _ (omega arith)) (omega arith) tt
-
-add-l : tie.Need-add-l Inv-loop μ-loop
-add-l c = omega arith
-
-loop-less : tie.Need-loop-less Inv-loop μ-loop
-loop-less c = omega arith
 
 loop-again : tie.Need-loop-again Inv-loop μ-loop
 loop-again c = let b = c .before .before in (omega arith, acc-more 8 (b .loop .inv .1) (read-is w32 _ (c .a .given)) (b .before .pre .near _ (omega arith)) (omega arith) tt)
@@ -45,10 +33,10 @@ sum-of-lanes-spec =
     Inv-loop
     μ-loop
     loop-holds
-    mul-a
-    element-copy-out-a
+    (λ c. omega arith)
+    (λ c. omega arith)
     add-a
-    add-l
-    loop-less
+    (λ c. omega arith)
+    (λ c. omega arith)
     loop-again
     returns)

@@ -25,17 +25,11 @@ module _ (a : ℕ) (x : ℤ) (h : a < 32) (p : mag x < 2 ^ 7) where
   one-made : (toZ w16 (ofZ w16 (toZ w16 a *ℤ toZ w16 (ofZ w16 (toZ w8 (ofZ w8 x))))) ≡ pos a *ℤ x) × Within 3968 (toZ w16 (ofZ w16 (toZ w16 a *ℤ toZ w16 (ofZ w16 (toZ w8 (ofZ w8 x))))))
   one-made = product-made w16 byte-is (wide-is w8 w16 x p tt) (pos-within {B = 31} (omega arith)) (within-width w8 x p) tt
 
-cast-result : tie.Need-cast-result
-cast-result c = search needs
-
 cast-result-2 : tie.Need-cast-result-2
 cast-result-2 c = wide-fits w8 w16 (c .args .x) (c .fits .x .sfits) tt
 
 mul-result : tie.Need-mul-result
 mul-result c = one-fits (c .args .a) (c .args .x) (c .pre .0) (c .fits .x .sfits)
-
-cast-result-3 : tie.Need-cast-result-3
-cast-result-3 c = search needs
 
 cast-result-4 : tie.Need-cast-result-4
 cast-result-4 c = wide-fits w8 w16 (c .args .y) (c .fits .y .sfits) tt
@@ -59,10 +53,10 @@ pub two-products-spec : {M : Type 1} → statement M
 two-products-spec =
     tie.close
     (tie.spec
-    cast-result
+    (λ c. search needs)
     cast-result-2
     mul-result
-    cast-result-3
+    (λ c. search needs)
     cast-result-4
     mul-result-2
     add-result

@@ -12,9 +12,6 @@ use Rattle.dots_activation.proofs.Loops.{both-fit, both-are, product-fits, prod
 use Rattle.dots_integer.proofs.whole.weighed_pairs.Statement.{statement}
 use Rattle.dots_integer.proofs.whole.weighed_pairs.Tie as tie
 
-cast-result : tie.Need-cast-result
-cast-result c = search needs
-
 add-result : tie.Need-add-result
 add-result c = both-fit w16 (c .fits .x .sfits) (c .fits .y .sfits) (c .pre .1) (c .pre .2) tt
 
@@ -36,4 +33,4 @@ returns : tie.Need-returns
 returns c = product-made w32 (toZ-pos w32 (c .args .scale) (omega arith)) (toZ-ofZ w32 _ (cast-result-2 c) ∙ sum-is c) (pos-within {B = 63} (omega arith)) (sum-near c) tt
 
 pub weighed-pairs-spec : {M : Type 1} → statement M
-weighed-pairs-spec = tie.close (tie.spec cast-result add-result cast-result-2 mul-result returns)
+weighed-pairs-spec = tie.close (tie.spec (λ c. search needs) add-result cast-result-2 mul-result returns)

@@ -33,9 +33,6 @@ unfolding integerSays given
 returns-3 c =
     simp (sym (c .before .before .before .block-bytes .ensures), le-ltb _ _ (c .before .before .if1 .left), eq-eqb _ _ (c .before .if2 .left), eq-eqb _ _ (c .if3 .taken))
 
-blocks-in-requires : tie.Need-blocks-in-requires
-blocks-in-requires c κs = search needs
-
 mul-if4 : tie.Need-mul-if4
 mul-if4 c =
     let b = c .before .before .before .before in
@@ -73,7 +70,7 @@ integer-dot-spec =
     rem-if2
     returns-2
     returns-3
-    blocks-in-requires
+    (λ c κs. search needs)
     mul-if4
     returns-4
     returns-5

@@ -23,17 +23,8 @@ abbrev μ-loop : tie.MeasureT-loop
 block-bytes-requires : tie.Need-block-bytes-requires Inv-loop μ-loop
 block-bytes-requires c κs = omega arith
 
-blocks-in-requires : tie.Need-blocks-in-requires Inv-loop μ-loop
-blocks-in-requires c κs = omega arith
-
 loop-holds : tie.Need-loop-holds Inv-loop μ-loop
 loop-holds c = dots-start _ _ _ _ _ refl
-
-mul-s : tie.Need-mul-s Inv-loop μ-loop
-mul-s c = omega arith
-
-block-end-requires : tie.Need-block-end-requires Inv-loop μ-loop
-block-end-requires c κs = omega arith
 
 -- block b lies within the row
 inside : (c : tie.After-block-end Inv-loop μ-loop)
@@ -53,18 +44,6 @@ mul-from c = omega (arith, inside c)
 add-to : tie.Need-add-to Inv-loop μ-loop
 add-to c = omega (arith, inside c)
 
-mul-quantized-block : tie.Need-mul-quantized-block Inv-loop μ-loop
-mul-quantized-block c = omega arith
-
-sub-quantized-block : tie.Need-sub-quantized-block Inv-loop μ-loop
-sub-quantized-block c = omega arith
-
-part-quantized-block-start : tie.Need-part-quantized-block-start Inv-loop μ-loop
-part-quantized-block-start c = omega arith
-
-part-quantized-block-end : tie.Need-part-quantized-block-end Inv-loop μ-loop
-part-quantized-block-end c = omega arith
-
 quantized-block-requires : tie.Need-quantized-block-requires Inv-loop μ-loop
 quantized-block-requires c κs =
     let b = c .before in
@@ -81,9 +60,6 @@ part-block-dot-below-start c = omega (arith, inside (c .before .before .before))
 part-block-dot-below-end : tie.Need-part-block-dot-below-end Inv-loop μ-loop
 part-block-dot-below-end c = omega (arith, inside (c .before .before .before))
 
-sub-block-dot-below-2 : tie.Need-sub-block-dot-below-2 Inv-loop μ-loop
-sub-block-dot-below-2 c = omega arith
-
 block-dot-below-requires : tie.Need-block-dot-below-requires Inv-loop μ-loop
 block-dot-below-requires c κs =
     let q = c .before .before .before .before .before in
@@ -93,18 +69,6 @@ block-dot-below-requires c κs =
     let a = t .before .before .before .before .before .args in
     let from = t .loop .b * size .result in
     (part-length (a .w .now) from (size .result) (from + size .result) refl (inside e) ∙ size .ensures, λ _. subst (λ (b : Q8Block). SmallSums (b .bsums)) (sym (q .quantized-block .ensures)) (small-sums _))
-
-mul-dots : tie.Need-mul-dots Inv-loop μ-loop
-mul-dots c = omega arith
-
-array-write-dots : tie.Need-array-write-dots Inv-loop μ-loop
-array-write-dots c = omega arith
-
-add-b : tie.Need-add-b Inv-loop μ-loop
-add-b c = omega arith
-
-loop-less : tie.Need-loop-less Inv-loop μ-loop
-loop-less c = omega arith
 
 loop-again : tie.Need-loop-again Inv-loop μ-loop
 loop-again c =
@@ -117,16 +81,10 @@ loop-again c =
     let v = c .block-dot-below .ensures ∙ block-is (a .format) (a .x .now) (a .w .now) (a .n) (t .loop .b) (e .result) (size .result) (q .result) (size .ensures) (e .ensures .0) (q .ensures) in
     dots-more (a .format) (a .x .now) (a .w .now) (a .n) _ (t .loop .dots) (t .loop .b) _ refl (omega arith) (omega arith) v (t .loop .inv)
 
-array-borrow-prefix-dots : tie.Need-array-borrow-prefix-dots Inv-loop μ-loop
-array-borrow-prefix-dots c = omega arith
-
 slice-aggregate-canonical-combine : tie.Need-slice-aggregate-canonical-combine Inv-loop μ-loop
 slice-aggregate-canonical-combine c =
     let b = c .before .before in
     sym (length-take-le (b .before .blocks-in .result) (b .loop .dots) (omega arith))
-
-canonical-combine-requires : tie.Need-canonical-combine-requires Inv-loop μ-loop
-canonical-combine-requires c κs = omega arith
 
 returns : tie.Need-returns Inv-loop μ-loop
 returns c =
@@ -142,28 +100,28 @@ integer-row-spec =
     Inv-loop
     μ-loop
     block-bytes-requires
-    blocks-in-requires
+    (λ c κs. omega arith)
     loop-holds
-    mul-s
-    block-end-requires
+    (λ c. omega arith)
+    (λ c κs. omega arith)
     mul-from
     add-to
-    mul-quantized-block
-    sub-quantized-block
-    part-quantized-block-start
-    part-quantized-block-end
+    (λ c. omega arith)
+    (λ c. omega arith)
+    (λ c. omega arith)
+    (λ c. omega arith)
     quantized-block-requires
     sub-block-dot-below
     part-block-dot-below-start
     part-block-dot-below-end
-    sub-block-dot-below-2
+    (λ c. omega arith)
     block-dot-below-requires
-    mul-dots
-    array-write-dots
-    add-b
-    loop-less
+    (λ c. omega arith)
+    (λ c. omega arith)
+    (λ c. omega arith)
+    (λ c. omega arith)
     loop-again
-    array-borrow-prefix-dots
+    (λ c. omega arith)
     slice-aggregate-canonical-combine
-    canonical-combine-requires
+    (λ c κs. omega arith)
     returns)

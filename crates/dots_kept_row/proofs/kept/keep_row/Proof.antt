@@ -27,24 +27,6 @@ room : (c : tie.In-loop Inv-loop μ-loop)
     (l .t + 1 ≤ length (c .before .before .before .before .args .x .now) / 256) × (l .t < length (l .ds)) × (256 * l .t + 256 ≤ length (l .qs)) × (8 * l .t + 8 ≤ length (l .sums)))
 room c = (omega arith, omega arith, omega arith, omega arith)
 
-mul-from : tie.Need-mul-from Inv-loop μ-loop
-mul-from c = omega arith
-
-add-to : tie.Need-add-to Inv-loop μ-loop
-add-to c = omega arith
-
-mul-quantized-block : tie.Need-mul-quantized-block Inv-loop μ-loop
-mul-quantized-block c = omega arith
-
-sub-quantized-block : tie.Need-sub-quantized-block Inv-loop μ-loop
-sub-quantized-block c = omega arith
-
-part-quantized-block-start : tie.Need-part-quantized-block-start Inv-loop μ-loop
-part-quantized-block-start c = omega arith
-
-part-quantized-block-end : tie.Need-part-quantized-block-end Inv-loop μ-loop
-part-quantized-block-end c = omega arith
-
 quantized-block-requires : tie.Need-quantized-block-requires Inv-loop μ-loop
 quantized-block-requires c κs =
     let from = 256 * c .before .before .loop .t in
@@ -56,23 +38,8 @@ long c =
     let e = c .quantized-block .ensures in
     (ap (λ (b : Q8Block). length (b .qs)) e ∙ block-long _ .0, ap (λ (b : Q8Block). length (b .bsums)) e ∙ block-long _ .1)
 
-mul-ds : tie.Need-mul-ds Inv-loop μ-loop
-mul-ds c = omega arith
-
-slice-write-ds : tie.Need-slice-write-ds Inv-loop μ-loop
-slice-write-ds c = omega arith
-
 slice-aggregate-lay-quants : tie.Need-slice-aggregate-lay-quants Inv-loop μ-loop
 slice-aggregate-lay-quants c = sym (long (c .before .before) .0)
-
-sub-lay-quants : tie.Need-sub-lay-quants Inv-loop μ-loop
-sub-lay-quants c = omega arith
-
-part-lay-quants-start : tie.Need-part-lay-quants-start Inv-loop μ-loop
-part-lay-quants-start c = omega arith
-
-part-lay-quants-end : tie.Need-part-lay-quants-end Inv-loop μ-loop
-part-lay-quants-end c = omega arith
 
 lay-quants-requires : tie.Need-lay-quants-requires Inv-loop μ-loop
 lay-quants-requires c κs =
@@ -81,26 +48,8 @@ lay-quants-requires c κs =
     let from = 256 * l .t in
     long k .0 ∙ sym (part-length (l .qs) from 256 (from + 256) refl (omega arith))
 
-mul-at : tie.Need-mul-at Inv-loop μ-loop
-mul-at c = omega arith
-
-add-end : tie.Need-add-end Inv-loop μ-loop
-add-end c = omega arith
-
 slice-aggregate-lay-sums : tie.Need-slice-aggregate-lay-sums Inv-loop μ-loop
 slice-aggregate-lay-sums c = sym (long (c .before .before .before .before .before .before .before) .1)
-
-mul-lay-sums : tie.Need-mul-lay-sums Inv-loop μ-loop
-mul-lay-sums c = omega arith
-
-sub-lay-sums : tie.Need-sub-lay-sums Inv-loop μ-loop
-sub-lay-sums c = omega arith
-
-part-lay-sums-start : tie.Need-part-lay-sums-start Inv-loop μ-loop
-part-lay-sums-start c = omega arith
-
-part-lay-sums-end : tie.Need-part-lay-sums-end Inv-loop μ-loop
-part-lay-sums-end c = omega arith
 
 lay-sums-requires : tie.Need-lay-sums-requires Inv-loop μ-loop
 lay-sums-requires c κs =
@@ -108,12 +57,6 @@ lay-sums-requires c κs =
     let l = k .before .before .before .loop in
     let at = 8 * l .t in
     long k .1 ∙ sym (part-length (l .sums) at 8 (at + 8) refl (omega arith))
-
-add-t : tie.Need-add-t Inv-loop μ-loop
-add-t c = omega arith
-
-loop-less : tie.Need-loop-less Inv-loop μ-loop
-loop-less c = omega arith
 
 loop-again : tie.Need-loop-again Inv-loop μ-loop
 loop-again c =
@@ -160,30 +103,30 @@ keep-row-spec =
     Inv-loop
     μ-loop
     loop-holds
-    mul-from
-    add-to
-    mul-quantized-block
-    sub-quantized-block
-    part-quantized-block-start
-    part-quantized-block-end
+    (λ c. omega arith)
+    (λ c. omega arith)
+    (λ c. omega arith)
+    (λ c. omega arith)
+    (λ c. omega arith)
+    (λ c. omega arith)
     quantized-block-requires
-    mul-ds
-    slice-write-ds
+    (λ c. omega arith)
+    (λ c. omega arith)
     slice-aggregate-lay-quants
-    sub-lay-quants
-    part-lay-quants-start
-    part-lay-quants-end
+    (λ c. omega arith)
+    (λ c. omega arith)
+    (λ c. omega arith)
     lay-quants-requires
-    mul-at
-    add-end
+    (λ c. omega arith)
+    (λ c. omega arith)
     slice-aggregate-lay-sums
-    mul-lay-sums
-    sub-lay-sums
-    part-lay-sums-start
-    part-lay-sums-end
+    (λ c. omega arith)
+    (λ c. omega arith)
+    (λ c. omega arith)
+    (λ c. omega arith)
     lay-sums-requires
-    add-t
-    loop-less
+    (λ c. omega arith)
+    (λ c. omega arith)
     loop-again
     same-length
     same-length-2

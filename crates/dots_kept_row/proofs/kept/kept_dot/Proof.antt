@@ -9,45 +9,6 @@ use borrow.Author.Needs.{needs}
 use Rattle.dots_kept_row.proofs.kept.kept_dot.Statement.{statement}
 use Rattle.dots_kept_row.proofs.kept.kept_dot.Tie as tie
 
-mul-from : tie.Need-mul-from
-mul-from c = search needs
-
-add-to : tie.Need-add-to
-add-to c = search needs
-
-mul-at : tie.Need-mul-at
-mul-at c = search needs
-
-add-end : tie.Need-add-end
-add-end c = search needs
-
-mul-block-dot : tie.Need-mul-block-dot
-mul-block-dot c = search needs
-
-shared-slice-read-block-dot : tie.Need-shared-slice-read-block-dot
-shared-slice-read-block-dot c = search needs
-
-sub-block-dot : tie.Need-sub-block-dot
-sub-block-dot c = search needs
-
-part-block-dot-start : tie.Need-part-block-dot-start
-part-block-dot-start c = search needs
-
-part-block-dot-end : tie.Need-part-block-dot-end
-part-block-dot-end c = search needs
-
-mul-block-dot-2 : tie.Need-mul-block-dot-2
-mul-block-dot-2 c = search needs
-
-sub-block-dot-2 : tie.Need-sub-block-dot-2
-sub-block-dot-2 c = search needs
-
-part-block-dot-start-2 : tie.Need-part-block-dot-start-2
-part-block-dot-start-2 c = search needs
-
-part-block-dot-end-2 : tie.Need-part-block-dot-end-2
-part-block-dot-end-2 c = search needs
-
 block-dot-requires : tie.Need-block-dot-requires
 block-dot-requires c κs =
     let s = c .before .before .before .before .before in
@@ -69,18 +30,18 @@ pub kept-dot-spec : {M : Type 1} → statement M
 kept-dot-spec =
     tie.close
     (tie.spec
-    mul-from
-    add-to
-    mul-at
-    add-end
-    mul-block-dot
-    shared-slice-read-block-dot
-    sub-block-dot
-    part-block-dot-start
-    part-block-dot-end
-    mul-block-dot-2
-    sub-block-dot-2
-    part-block-dot-start-2
-    part-block-dot-end-2
+    (λ c. search needs)
+    (λ c. search needs)
+    (λ c. search needs)
+    (λ c. search needs)
+    (λ c. search needs)
+    (λ c. search needs)
+    (λ c. search needs)
+    (λ c. search needs)
+    (λ c. search needs)
+    (λ c. search needs)
+    (λ c. search needs)
+    (λ c. search needs)
+    (λ c. search needs)
     block-dot-requires
     returns)

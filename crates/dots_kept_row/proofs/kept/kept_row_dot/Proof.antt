@@ -21,9 +21,6 @@ Inv-loop format meeting w ds qs sums dots₀ size t₀ t-end dots t = Filling (k
 abbrev μ-loop : tie.MeasureT-loop
 μ-loop format meeting w ds qs sums dots₀ size t₀ t-end dots t = length dots₀ - t
 
-block-bytes-requires : tie.Need-block-bytes-requires Inv-loop μ-loop
-block-bytes-requires c κs = omega arith
-
 loop-holds : tie.Need-loop-holds Inv-loop μ-loop
 loop-holds c = filling-start _ _ _ refl
 
@@ -63,18 +60,6 @@ kept-dot-requires c κs =
     let size = r .result in
     (part-length (s .args .w .now) (t * size) size (t * size + size) refl (facts d .0) ∙ r .ensures, facts d .2, kept-less _ (t + 1) _ _ _ (omega (arith, d .loop-test .taken)) (s .pre .2))
 
-mul-dots : tie.Need-mul-dots Inv-loop μ-loop
-mul-dots c = omega arith
-
-slice-write-dots : tie.Need-slice-write-dots Inv-loop μ-loop
-slice-write-dots c = omega arith
-
-add-t : tie.Need-add-t Inv-loop μ-loop
-add-t c = omega arith
-
-loop-less : tie.Need-loop-less Inv-loop μ-loop
-loop-less c = omega arith
-
 loop-again : tie.Need-loop-again Inv-loop μ-loop
 loop-again c =
     let d = c .before .before in
@@ -83,9 +68,6 @@ loop-again c =
     let l = d .before .loop in
     filling-more (keptDot (a .format) (a .w .now) (a .ds .now) (a .qs .now) (a .sums .now)) (a .dots .now) (length (a .dots .now)) (l .dots) (l .t) _ refl (l .inv) (d .loop-test .taken)
     (c .kept-dot .ensures ∙ ap (λ (v : List ℕ). dotKept (a .format) v (a .ds .now) (a .qs .now) (a .sums .now) (l .t)) (lent-part (a .w .now) (l .t) (r .result) (bytesK (a .format)) (r .ensures)))
-
-meet-requires : tie.Need-meet-requires Inv-loop μ-loop
-meet-requires c κs = omega arith
 
 same-length : tie.Need-same-length Inv-loop μ-loop
 same-length c =
@@ -107,7 +89,7 @@ kept-row-dot-spec =
     (tie.spec
     Inv-loop
     μ-loop
-    block-bytes-requires
+    (λ c κs. omega arith)
     loop-holds
     mul-from
     add-to
@@ -115,11 +97,11 @@ kept-row-dot-spec =
     part-kept-dot-start
     part-kept-dot-end
     kept-dot-requires
-    mul-dots
-    slice-write-dots
-    add-t
-    loop-less
+    (λ c. omega arith)
+    (λ c. omega arith)
+    (λ c. omega arith)
+    (λ c. omega arith)
     loop-again
-    meet-requires
+    (λ c κs. omega arith)
     same-length
     returns)

@@ -11,30 +11,12 @@ use borrow.Author.Needs.{needs}
 use Rattle.dots_kept_row.proofs.meeting.meet.Statement.{statement}
 use Rattle.dots_kept_row.proofs.meeting.meet.Tie as tie
 
-enum-told : tie.Need-enum-told
-enum-told c = search needs
-
-canonical-combine-requires : tie.Need-canonical-combine-requires
-canonical-combine-requires c κs = search needs
-
-enum-told-2 : tie.Need-enum-told-2
-enum-told-2 c = search needs
-
-running-sum-requires : tie.Need-running-sum-requires
-running-sum-requires c κs = search needs
-
-same-length : tie.Need-same-length
-same-length c = search needs
-
 returns : tie.Need-returns
 returns c =
     let k = c .before .before in
     let e = k .before .before in
     let l = e .before .before .before .args .dots .now in
     ap (λ (q : Float × List Float). q .0) (k .canonical-combine .ensures) ∙ tree-meets l ∙ ap (λ (m : Meeting). meets m (values l) (length l)) (sym (e .enum-told .given .1))
-
-same-length-2 : tie.Need-same-length-2
-same-length-2 c = search needs
 
 returns-2 : tie.Need-returns-2
 returns-2 c =
@@ -46,11 +28,11 @@ pub meet-spec : {M : Type 1} → statement M
 meet-spec =
     tie.close
     (tie.spec
-    enum-told
-    canonical-combine-requires
-    enum-told-2
-    running-sum-requires
-    same-length
+    (λ c. search needs)
+    (λ c κs. search needs)
+    (λ c. search needs)
+    (λ c κs. search needs)
+    (λ c. search needs)
     returns
-    same-length-2
+    (λ c. search needs)
     returns-2)

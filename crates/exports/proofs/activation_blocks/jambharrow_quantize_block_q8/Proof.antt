@@ -5,15 +5,9 @@ use Rattle.exports.proofs.activation_blocks.jambharrow_quantize_block_q
 }
 use Rattle.exports.proofs.activation_blocks.jambharrow_quantize_block_q8.Tie as tie
 
-quantize-block-q8-requires : tie.Need-quantize-block-q8-requires
-quantize-block-q8-requires c κs = search needs
-
-lay-out-block-requires : tie.Need-lay-out-block-requires
-lay-out-block-requires c κs = search needs
-
 returns : tie.Need-returns
 returns c = cc
 
 pub jambharrow-quantize-block-q8-spec : {M : Type 1} → statement M
 jambharrow-quantize-block-q8-spec =
-    tie.close (tie.spec quantize-block-q8-requires lay-out-block-requires returns)
+    tie.close (tie.spec (λ c κs. search needs) (λ c κs. search needs) returns)

@@ -4,18 +4,9 @@ use Rattle.exports.proofs.Handed.{handed}
 use Rattle.exports.proofs.block_decoders.jambharrow_dequantize_q8_0.Statement.{statement}
 use Rattle.exports.proofs.block_decoders.jambharrow_dequantize_q8_0.Tie as tie
 
-dequantize-q8-0-requires : tie.Need-dequantize-q8-0-requires
-dequantize-q8-0-requires c κs = search needs
-
-number-of-requires : tie.Need-number-of-requires
-number-of-requires c κs = search needs
-
-same-length : tie.Need-same-length
-same-length c = search needs
-
 returns : tie.Need-returns
 returns c = handed _ _ _ _ (c .number-of .ensures) (c .before .before .before .dequantize-q8-0 .ensures)
 
 pub jambharrow-dequantize-q8-0-spec : {M : Type 1} → statement M
 jambharrow-dequantize-q8-0-spec =
-    tie.close (tie.spec dequantize-q8-0-requires number-of-requires same-length returns)
+    tie.close (tie.spec (λ c κs. search needs) (λ c κs. search needs) (λ c. search needs) returns)

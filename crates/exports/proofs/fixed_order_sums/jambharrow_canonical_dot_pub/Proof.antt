@@ -5,15 +5,9 @@ use Rattle.exports.proofs.fixed_order_sums.jambharrow_canonical_dot_pub
 }
 use Rattle.exports.proofs.fixed_order_sums.jambharrow_canonical_dot_pub.Tie as tie
 
-canonical-dot-pub-requires : tie.Need-canonical-dot-pub-requires
-canonical-dot-pub-requires c κs = search needs
-
-lay-out-requires : tie.Need-lay-out-requires
-lay-out-requires c κs = search needs
-
 returns : tie.Need-returns
 returns c = cc
 
 pub jambharrow-canonical-dot-pub-spec : {M : Type 1} → statement M
 jambharrow-canonical-dot-pub-spec =
-    tie.close (tie.spec canonical-dot-pub-requires lay-out-requires returns)
+    tie.close (tie.spec (λ c κs. search needs) (λ c κs. search needs) returns)

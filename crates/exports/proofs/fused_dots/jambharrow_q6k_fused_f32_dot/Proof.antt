@@ -6,12 +6,9 @@ use Rattle.exports.proofs.fused_dots.jambharrow_q6k_fused_f32_dot.Tie a
 q6k-fused-f32-dot-requires : tie.Need-q6k-fused-f32-dot-requires
 q6k-fused-f32-dot-requires c κs = search needs
 
-lay-out-requires : tie.Need-lay-out-requires
-lay-out-requires c κs = search needs
-
 returns : tie.Need-returns
 returns c = cc
 
 pub jambharrow-q6k-fused-f32-dot-spec : {M : Type 1} → statement M
 jambharrow-q6k-fused-f32-dot-spec =
-    tie.close (tie.spec q6k-fused-f32-dot-requires lay-out-requires returns)
+    tie.close (tie.spec q6k-fused-f32-dot-requires (λ c κs. search needs) returns)

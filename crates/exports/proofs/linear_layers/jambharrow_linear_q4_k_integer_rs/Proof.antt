@@ -4,18 +4,9 @@ use Rattle.exports.proofs.Handed.{handed}
 use Rattle.exports.proofs.linear_layers.jambharrow_linear_q4_k_integer_rs.Statement.{statement}
 use Rattle.exports.proofs.linear_layers.jambharrow_linear_q4_k_integer_rs.Tie as tie
 
-linear-q4-k-integer-rs-requires : tie.Need-linear-q4-k-integer-rs-requires
-linear-q4-k-integer-rs-requires c κs = search needs
-
-number-of-requires : tie.Need-number-of-requires
-number-of-requires c κs = search needs
-
-same-length : tie.Need-same-length
-same-length c = search needs
-
 returns : tie.Need-returns
 returns c = handed _ _ _ _ (c .number-of .ensures) (c .before .before .before .linear-q4-k-integer-rs .ensures)
 
 pub jambharrow-linear-q4-k-integer-rs-spec : {M : Type 1} → statement M
 jambharrow-linear-q4-k-integer-rs-spec =
-    tie.close (tie.spec linear-q4-k-integer-rs-requires number-of-requires same-length returns)
+    tie.close (tie.spec (λ c κs. search needs) (λ c κs. search needs) (λ c. search needs) returns)

@@ -4,18 +4,9 @@ use Rattle.exports.proofs.Handed.{handed}
 use Rattle.exports.proofs.linear_layers.jambharrow_linear_q6_k_integer.Statement.{statement}
 use Rattle.exports.proofs.linear_layers.jambharrow_linear_q6_k_integer.Tie as tie
 
-linear-q6-k-integer-requires : tie.Need-linear-q6-k-integer-requires
-linear-q6-k-integer-requires c κs = search needs
-
-number-of-requires : tie.Need-number-of-requires
-number-of-requires c κs = search needs
-
-same-length : tie.Need-same-length
-same-length c = search needs
-
 returns : tie.Need-returns
 returns c = handed _ _ _ _ (c .number-of .ensures) (c .before .before .before .linear-q6-k-integer .ensures)
 
 pub jambharrow-linear-q6-k-integer-spec : {M : Type 1} → statement M
 jambharrow-linear-q6-k-integer-spec =
-    tie.close (tie.spec linear-q6-k-integer-requires number-of-requires same-length returns)
+    tie.close (tie.spec (λ c κs. search needs) (λ c κs. search needs) (λ c. search needs) returns)

@@ -18,12 +18,6 @@ use Rattle.fillin_answer.proofs.Kept.{carried}
 use Rattle.fillin_answer.proofs.answers.answer.Statement.{statement}
 use Rattle.fillin_answer.proofs.answers.answer.Tie as tie
 
-slice-aggregate-decide : tie.Need-slice-aggregate-decide
-slice-aggregate-decide c = search needs
-
-decide-requires : tie.Need-decide-requires
-decide-requires c κs = search needs
-
 array-share-prefix-y : tie.Need-array-share-prefix-y
 array-share-prefix-y c = search needs
 
@@ -36,14 +30,8 @@ write-line-requires c κs =
     let few = d .decide .ensures .0 .few in
     (d .before .before .before .before .before .before .pre .line-fits, rw (length-take-le _ _ (array-share-prefix-y (c .before .before))) few)
 
-is-last-requires : tie.Need-is-last-requires
-is-last-requires c κs = search needs
-
 same-length : tie.Need-same-length
 same-length c = search needs
-
-same-length-2 : tie.Need-same-length-2
-same-length-2 c = search needs
 
 -- a text that is laid at the front fits there
 fits : (before t after : List ℕ) (n : ℕ) → after ≡ laid before 0 t → n ≡ length t → n ≤ length after
@@ -72,4 +60,4 @@ returns c =
 pub answer-spec : {M : Type 1} → statement M
 answer-spec =
     tie.close
-    (tie.spec slice-aggregate-decide decide-requires array-share-prefix-y slice-aggregate-write-line write-line-requires is-last-requires same-length same-length-2 returns)
+    (tie.spec (λ c. search needs) (λ c κs. search needs) array-share-prefix-y slice-aggregate-write-line write-line-requires (λ c κs. search needs) same-length (λ c. search needs) returns)

@@ -16,45 +16,18 @@ use Rattle.fillin_answer.specs.Inner.{saying}
 use Rattle.fillin_answer.proofs.answers.answer_window.Statement.{statement}
 use Rattle.fillin_answer.proofs.answers.answer_window.Tie as tie
 
-readings-of-requires : tie.Need-readings-of-requires
-readings-of-requires c κs = search needs
-
 window-outputs-requires : tie.Need-window-outputs-requires
 window-outputs-requires c κs =
     let p = c .before .before .before .before .before .before .pre .0 in
     (p .0, ap length (c .before .readings-of .ensures) ∙ p .2, omega (arith, p .0 .outputs, p .1))
 
-enum-known-why : tie.Need-enum-known-why
-enum-known-why c = search needs
-
-stop-requires : tie.Need-stop-requires
-stop-requires c κs = search needs
-
-same-length : tie.Need-same-length
-same-length c = search needs
-
 returns : tie.Need-returns
 returns c = absurd (never-refused _ _ (c .before .before .before .before .before .before .window-outputs .ensures .0) (c .before .before .why .given .1))
-
-enum-told : tie.Need-enum-told
-enum-told c = search needs
-
-behind-record-requires : tie.Need-behind-record-requires
-behind-record-requires c κs = search needs
 
 add-state : tie.Need-add-state
 add-state c =
     let t = c .before .before .before .before .before .before .before .before .before .before .before .before .before in
     omega (arith, ap (λ (s : State). s .answered) (c .before .behind-record .ensures), t .pre .1)
-
-add-t13 : tie.Need-add-t13
-add-t13 c = search needs
-
-add-t14 : tie.Need-add-t14
-add-t14 c = search needs
-
-same-length-2 : tie.Need-same-length-2
-same-length-2 c = search needs
 
 returns-2 : tie.Need-returns-2
 returns-2 c =
@@ -70,4 +43,4 @@ returns-2 c =
 pub answer-window-spec : {M : Type 1} → statement M
 answer-window-spec =
     tie.close
-    (tie.spec readings-of-requires window-outputs-requires enum-known-why stop-requires same-length returns enum-told behind-record-requires add-state add-t13 add-t14 same-length-2 returns-2)
+    (tie.spec (λ c κs. search needs) window-outputs-requires (λ c. search needs) (λ c κs. search needs) (λ c. search needs) returns (λ c. search needs) (λ c κs. search needs) add-state (λ c. search needs) (λ c. search needs) (λ c. search needs) returns-2)

@@ -66,18 +66,6 @@ module _ (st : State) (s weights : List ℕ) where
 
 -- ---- the calls
 
-read-requires : tie.Need-read-requires
-read-requires c κs = search needs
-
-enum-told : tie.Need-enum-told
-enum-told c = search needs
-
-enum-known-format : tie.Need-enum-known-format
-enum-known-format c = search needs
-
-payload-requires : tie.Need-payload-requires
-payload-requires c κs = search needs
-
 -- a layer was found
 module _ (k : tie.After-format) where
   abbrev at-layer : tie.Start
@@ -96,12 +84,6 @@ take-layer-requires c κs =
     let l = layer-sound _ (frameOf (now (t .args .«record»))) _ _ _ (a-layer k) in
     let few = few-weights (l .known) _ _ (l .inputs) (l .outputs) in
     (rw (c .before .payload .ensures) (omega (arith, l .weighed, few, t .pre .0 .1)), t .pre .1 .0)
-
-enum-told-2 : tie.Need-enum-told-2
-enum-told-2 c = search needs
-
-payload-requires-2 : tie.Need-payload-requires-2
-payload-requires-2 c κs = search needs
 
 -- a window was found
 module _ (k : tie.After-enum-told2) where
@@ -127,27 +109,12 @@ answer-window-requires c κs =
     let kept : length (take (t .args .st .«weight_bytes») (now (t .args .weights))) ≡ t .args .st .«weight_bytes» = length-take-le _ _ (window-fits k) in
     ((rw kept (t .pre .0 .0), t .pre .0 .2, ap length (c .before .before .payload2 .ensures) ∙ window-read _ (frameOf (now (t .args .«record»))) (a-window k)), t .pre .1)
 
-enum-told-3 : tie.Need-enum-told-3
-enum-told-3 c = search needs
-
-refuse-window-requires : tie.Need-refuse-window-requires
-refuse-window-requires c κs = search needs
-
-enum-known-why : tie.Need-enum-known-why
-enum-known-why c = search needs
-
-stop-requires : tie.Need-stop-requires
-stop-requires c κs = search needs
-
 -- ---- the answers
 
 returns : tie.Need-returns
 returns c =
     let t = c .before .before .before .before .before .before .before in
     concluded (t .args .st) (now (t .args .«record»)) (now (t .args .weights)) (value nothing) _ _ _ (sym (c .before .before .read .ensures) ∙ ap itemSays (c .enum-told .given .1)) (silent _ _ _ refl refl) (stays (t .args .st) (now (t .args .«record»)) (now (t .args .weights)) (t .pre .0 .0) (t .pre .0 .1))
-
-same-length : tie.Need-same-length
-same-length c = search needs
 
 returns-2 : tie.Need-returns-2
 returns-2 c =
@@ -162,12 +129,6 @@ returns-2 c =
     let l = layerOf (g .0) (g .1 .0) (g .1 .1 .0) in
     let same = ap (λ (q : List ℕ). saying line 0 (withLayer l (length (weightsIn q)) (behind (length (now (t .args .«record»))) st))) p in
     concluded st (now (t .args .«record»)) weights (value (layer (g .0) (g .1 .0) (g .1 .1 .0))) _ _ _ (a-layer k) (silent _ _ _ (e .0 ∙ same) refl) (e .1 ∙ ap (λ (q : List ℕ). laid weights 0 (weightsIn q)) p)
-
-same-length-2 : tie.Need-same-length-2
-same-length-2 c = search needs
-
-same-length-3 : tie.Need-same-length-3
-same-length-3 c = search needs
 
 returns-3 : tie.Need-returns-3
 returns-3 c =
@@ -198,5 +159,5 @@ returns-5 c =
 pub decide-spec : {M : Type 1} → statement M
 decide-spec =
     tie.close
-    (tie.spec read-requires enum-told enum-known-format payload-requires take-layer-requires enum-told-2 payload-requires-2 slice-reshare-prefix-answer-window slice-aggregate-answer-window answer-window-requires
-    enum-told-3 refuse-window-requires enum-known-why stop-requires returns same-length returns-2 same-length-2 same-length-3 returns-3 returns-4 returns-5)
+    (tie.spec (λ c κs. search needs) (λ c. search needs) (λ c. search needs) (λ c κs. search needs) take-layer-requires (λ c. search needs) (λ c κs. search needs) slice-reshare-prefix-answer-window slice-aggregate-answer-window answer-window-requires
+    (λ c. search needs) (λ c κs. search needs) (λ c. search needs) (λ c κs. search needs) returns (λ c. search needs) returns-2 (λ c. search needs) (λ c. search needs) returns-3 returns-4 returns-5)

@@ -10,17 +10,8 @@ use Rattle.fillin_answer.specs.Inner.{saying}
 use Rattle.fillin_answer.proofs.answers.refuse_window.Statement.{statement}
 use Rattle.fillin_answer.proofs.answers.refuse_window.Tie as tie
 
-behind-record-requires : tie.Need-behind-record-requires
-behind-record-requires c κs = search needs
-
 add-state : tie.Need-add-state
 add-state c = omega (arith, ap (λ (s : State). s .refused) (c .before .behind-record .ensures))
-
-add-t4 : tie.Need-add-t4
-add-t4 c = search needs
-
-add-t5 : tie.Need-add-t5
-add-t5 c = search needs
 
 returns : tie.Need-returns
 returns c =
@@ -28,4 +19,4 @@ returns c =
     ap (λ (s : State). saying (WarmUp (windowNumber (b .before .args .st))) 0 (oneRefused s)) (b .behind-record .ensures)
 
 pub refuse-window-spec : {M : Type 1} → statement M
-refuse-window-spec = tie.close (tie.spec behind-record-requires add-state add-t4 add-t5 returns)
+refuse-window-spec = tie.close (tie.spec (λ c κs. search needs) add-state (λ c. search needs) (λ c. search needs) returns)

@@ -16,17 +16,8 @@ use Rattle.fillin_answer.specs.Inner.{saying}
 use Rattle.fillin_answer.proofs.answers.take_layer.Statement.{statement}
 use Rattle.fillin_answer.proofs.answers.take_layer.Tie as tie
 
-behind-record-requires : tie.Need-behind-record-requires
-behind-record-requires c κs = search needs
-
-weights-requires : tie.Need-weights-requires
-weights-requires c κs = search needs
-
 copy-requires : tie.Need-copy-requires
 copy-requires c κs = rw (c .before .weights .ensures) (c .before .before .before .before .before .pre .0)
-
-same-length : tie.Need-same-length
-same-length c = search needs
 
 -- a text copied to the front is laid there
 copied-front : (xs src text ys : List ℕ) → src ≡ text → ys ≡ take (length src) src ++ drop (length src) xs → ys ≡ laid xs 0 text
@@ -46,4 +37,4 @@ returns c =
     (kept _ _ _ _ _ _ (copied .0 ∙ ap length weights) (c .before .before .before .before .before .behind-record .ensures), copied-front _ _ _ _ weights (copied .1))
 
 pub take-layer-spec : {M : Type 1} → statement M
-take-layer-spec = tie.close (tie.spec behind-record-requires weights-requires copy-requires same-length returns)
+take-layer-spec = tie.close (tie.spec (λ c κs. search needs) (λ c κs. search needs) copy-requires (λ c. search needs) returns)

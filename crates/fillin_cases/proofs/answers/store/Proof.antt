@@ -11,14 +11,8 @@ Inv-loop file times place counter₀ counter = counter ≤ times
 abbrev μ-loop : tie.MeasureT-loop
 μ-loop file times place counter₀ counter = times - counter
 
-slice-aggregate-open-overwrite : tie.Need-slice-aggregate-open-overwrite Inv-loop μ-loop
-slice-aggregate-open-overwrite c = search needs
-
 open-overwrite-requires : tie.Need-open-overwrite-requires Inv-loop μ-loop
 open-overwrite-requires c κs = tt
-
-slice-aggregate-fail : tie.Need-slice-aggregate-fail Inv-loop μ-loop
-slice-aggregate-fail c = search needs
 
 fail-requires : tie.Need-fail-requires Inv-loop μ-loop
 fail-requires c κs = tt
@@ -26,20 +20,8 @@ fail-requires c κs = tt
 returns : tie.Need-returns Inv-loop μ-loop
 returns c = tt
 
-loop-holds : tie.Need-loop-holds Inv-loop μ-loop
-loop-holds c = omega arith
-
 write-all-requires : tie.Need-write-all-requires Inv-loop μ-loop
 write-all-requires c κs = tt
-
-add-counter : tie.Need-add-counter Inv-loop μ-loop
-add-counter c = omega arith
-
-loop-less : tie.Need-loop-less Inv-loop μ-loop
-loop-less c = omega arith
-
-loop-again : tie.Need-loop-again Inv-loop μ-loop
-loop-again c = omega arith
 
 close-requires : tie.Need-close-requires Inv-loop μ-loop
 close-requires c κs = tt
@@ -53,15 +35,15 @@ store-spec =
     (tie.spec
     Inv-loop
     μ-loop
-    slice-aggregate-open-overwrite
+    (λ c. search needs)
     open-overwrite-requires
-    slice-aggregate-fail
+    (λ c. search needs)
     fail-requires
     returns
-    loop-holds
+    (λ c. omega arith)
     write-all-requires
-    add-counter
-    loop-less
-    loop-again
+    (λ c. omega arith)
+    (λ c. omega arith)
+    (λ c. omega arith)
     close-requires
     returns-2)

@@ -11,47 +11,8 @@ Inv-loop s number₀ at₀ number at = at ≤ length s
 abbrev μ-loop : tie.MeasureT-loop
 μ-loop s number₀ at₀ number at = length s - at
 
-loop-holds : tie.Need-loop-holds Inv-loop μ-loop
-loop-holds c = omega arith
-
-sub-loop : tie.Need-sub-loop Inv-loop μ-loop
-sub-loop c = omega arith
-
-shared-slice-read-way : tie.Need-shared-slice-read-way Inv-loop μ-loop
-shared-slice-read-way c = omega arith
-
-add-u32-at : tie.Need-add-u32-at Inv-loop μ-loop
-add-u32-at c = omega arith
-
-u32-at-requires : tie.Need-u32-at-requires Inv-loop μ-loop
-u32-at-requires c κs = omega arith
-
-add-from : tie.Need-add-from Inv-loop μ-loop
-add-from c = omega arith
-
-sub-if1 : tie.Need-sub-if1 Inv-loop μ-loop
-sub-if1 c = omega arith
-
-add-to : tie.Need-add-to Inv-loop μ-loop
-add-to c = omega arith
-
-sub-answer-so : tie.Need-sub-answer-so Inv-loop μ-loop
-sub-answer-so c = omega arith
-
-part-answer-so-start : tie.Need-part-answer-so-start Inv-loop μ-loop
-part-answer-so-start c = omega arith
-
-part-answer-so-end : tie.Need-part-answer-so-end Inv-loop μ-loop
-part-answer-so-end c = omega arith
-
 answer-so-requires : tie.Need-answer-so-requires Inv-loop μ-loop
 answer-so-requires c κs = tt
-
-loop-less : tie.Need-loop-less Inv-loop μ-loop
-loop-less c = omega arith
-
-loop-again : tie.Need-loop-again Inv-loop μ-loop
-loop-again c = omega arith
 
 returns : tie.Need-returns Inv-loop μ-loop
 returns c = tt
@@ -65,19 +26,19 @@ answer-container-spec =
     (tie.spec
     Inv-loop
     μ-loop
-    loop-holds
-    sub-loop
-    shared-slice-read-way
-    add-u32-at
-    u32-at-requires
-    add-from
-    sub-if1
-    add-to
-    sub-answer-so
-    part-answer-so-start
-    part-answer-so-end
+    (λ c. omega arith)
+    (λ c. omega arith)
+    (λ c. omega arith)
+    (λ c. omega arith)
+    (λ c κs. omega arith)
+    (λ c. omega arith)
+    (λ c. omega arith)
+    (λ c. omega arith)
+    (λ c. omega arith)
+    (λ c. omega arith)
+    (λ c. omega arith)
     answer-so-requires
-    loop-less
-    loop-again
+    (λ c. omega arith)
+    (λ c. omega arith)
     returns
     returns-2)

@@ -10,21 +10,6 @@ Inv-loop number file next₀ most₀ next most = (1 ≤ most) × (most ≤ 8)
 abbrev μ-loop : tie.MeasureT-loop
 μ-loop number file next₀ most₀ next most = 8 - most
 
-loop-holds : tie.Need-loop-holds Inv-loop μ-loop
-loop-holds c = omega arith
-
-answer-file-requires : tie.Need-answer-file-requires Inv-loop μ-loop
-answer-file-requires c κs = omega arith
-
-add-most : tie.Need-add-most Inv-loop μ-loop
-add-most c = omega arith
-
-loop-less : tie.Need-loop-less Inv-loop μ-loop
-loop-less c = omega arith
-
-loop-again : tie.Need-loop-again Inv-loop μ-loop
-loop-again c = omega arith
-
 returns : tie.Need-returns Inv-loop μ-loop
 returns c = tt
 
@@ -34,9 +19,9 @@ answer-pieces-spec =
     (tie.spec
     Inv-loop
     μ-loop
-    loop-holds
-    answer-file-requires
-    add-most
-    loop-less
-    loop-again
+    (λ c. omega arith)
+    (λ c κs. omega arith)
+    (λ c. omega arith)
+    (λ c. omega arith)
+    (λ c. omega arith)
     returns)

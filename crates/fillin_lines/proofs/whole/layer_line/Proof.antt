@@ -9,30 +9,6 @@ use borrow.Author.Needs.{needs}
 use Rattle.fillin_lines.proofs.whole.layer_line.Statement.{statement}
 use Rattle.fillin_lines.proofs.whole.layer_line.Tie as tie
 
-slice-aggregate-put : tie.Need-slice-aggregate-put
-slice-aggregate-put c = search needs
-
-put-requires : tie.Need-put-requires
-put-requires c κs = search needs
-
-put-field-requires : tie.Need-put-field-requires
-put-field-requires c κs = search needs
-
-put-field-requires-2 : tie.Need-put-field-requires-2
-put-field-requires-2 c κs = search needs
-
-put-field-requires-3 : tie.Need-put-field-requires-3
-put-field-requires-3 c κs = search needs
-
-slice-aggregate-put-2 : tie.Need-slice-aggregate-put-2
-slice-aggregate-put-2 c = search needs
-
-put-requires-2 : tie.Need-put-requires-2
-put-requires-2 c κs = search needs
-
-same-length : tie.Need-same-length
-same-length c = search needs
-
 returns : tie.Need-returns
 unfolding layerLine
 returns c =
@@ -53,12 +29,12 @@ pub layer-line-spec : {M : Type 1} → statement M
 layer-line-spec =
     tie.close
     (tie.spec
-    slice-aggregate-put
-    put-requires
-    put-field-requires
-    put-field-requires-2
-    put-field-requires-3
-    slice-aggregate-put-2
-    put-requires-2
-    same-length
+    (λ c. search needs)
+    (λ c κs. search needs)
+    (λ c κs. search needs)
+    (λ c κs. search needs)
+    (λ c κs. search needs)
+    (λ c. search needs)
+    (λ c κs. search needs)
+    (λ c. search needs)
     returns)

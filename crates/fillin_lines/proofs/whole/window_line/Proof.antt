@@ -21,32 +21,11 @@ abbrev μ-loop : tie.MeasureT-loop
 slice-aggregate-put : tie.Need-slice-aggregate-put Inv-loop μ-loop
 slice-aggregate-put c = refl
 
-put-requires : tie.Need-put-requires Inv-loop μ-loop
-put-requires c κs = omega arith
-
-put-field-requires : tie.Need-put-field-requires Inv-loop μ-loop
-put-field-requires c κs = omega arith
-
 loop-holds : tie.Need-loop-holds Inv-loop μ-loop
 loop-holds c =
     let s = c .before .before in
     let args = s .before .before .before .before .before .before .before .before .before .args in
     (shown-none (s .put-field .last .0) (s .put-field .result) (now (args .outputs)), refl)
-
-mul-put-output : tie.Need-mul-put-output Inv-loop μ-loop
-mul-put-output c = omega arith
-
-shared-slice-read-put-output : tie.Need-shared-slice-read-put-output Inv-loop μ-loop
-shared-slice-read-put-output c = omega arith
-
-put-output-requires : tie.Need-put-output-requires Inv-loop μ-loop
-put-output-requires c κs = omega arith
-
-add-k : tie.Need-add-k Inv-loop μ-loop
-add-k c = omega arith
-
-loop-less : tie.Need-loop-less Inv-loop μ-loop
-loop-less c = omega arith
 
 -- the number lies within the line
 room : (c : tie.After-slice-known3 Inv-loop μ-loop) → c .before .before .put-field .result ≤ length (c .before .before .put-field .last .0)
@@ -65,12 +44,6 @@ loop-again c =
 
 slice-aggregate-put-2 : tie.Need-slice-aggregate-put-2 Inv-loop μ-loop
 slice-aggregate-put-2 c = refl
-
-put-requires-2 : tie.Need-put-requires-2 Inv-loop μ-loop
-put-requires-2 c κs = omega arith
-
-same-length : tie.Need-same-length Inv-loop μ-loop
-same-length c = omega arith
 
 returns : tie.Need-returns Inv-loop μ-loop
 unfolding windowHead windowLine
@@ -96,16 +69,16 @@ window-line-spec =
     Inv-loop
     μ-loop
     slice-aggregate-put
-    put-requires
-    put-field-requires
+    (λ c κs. omega arith)
+    (λ c κs. omega arith)
     loop-holds
-    mul-put-output
-    shared-slice-read-put-output
-    put-output-requires
-    add-k
-    loop-less
+    (λ c. omega arith)
+    (λ c. omega arith)
+    (λ c κs. omega arith)
+    (λ c. omega arith)
+    (λ c. omega arith)
     loop-again
     slice-aggregate-put-2
-    put-requires-2
-    same-length
+    (λ c κs. omega arith)
+    (λ c. omega arith)
     returns)

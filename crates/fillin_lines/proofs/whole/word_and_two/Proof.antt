@@ -9,24 +9,6 @@ use borrow.Author.Needs.{needs}
 use Rattle.fillin_lines.proofs.whole.word_and_two.Statement.{statement}
 use Rattle.fillin_lines.proofs.whole.word_and_two.Tie as tie
 
-put-requires : tie.Need-put-requires
-put-requires c κs = search needs
-
-put-field-requires : tie.Need-put-field-requires
-put-field-requires c κs = search needs
-
-put-field-requires-2 : tie.Need-put-field-requires-2
-put-field-requires-2 c κs = search needs
-
-slice-aggregate-put : tie.Need-slice-aggregate-put
-slice-aggregate-put c = search needs
-
-put-requires-2 : tie.Need-put-requires-2
-put-requires-2 c κs = search needs
-
-same-length : tie.Need-same-length
-same-length c = search needs
-
 returns : tie.Need-returns
 returns c =
     let p = c .before .before in
@@ -45,10 +27,10 @@ pub word-and-two-spec : {M : Type 1} → statement M
 word-and-two-spec =
     tie.close
     (tie.spec
-    put-requires
-    put-field-requires
-    put-field-requires-2
-    slice-aggregate-put
-    put-requires-2
-    same-length
+    (λ c κs. search needs)
+    (λ c κs. search needs)
+    (λ c κs. search needs)
+    (λ c. search needs)
+    (λ c κs. search needs)
+    (λ c. search needs)
     returns)

@@ -36,15 +36,6 @@ loop-holds c =
     let b = begins _ (c .before .before .before .start .ensures) in
     (b .0, omega arith, omega arith, omega arith, refl, refl, refl, record { in-order = omega arith; inside = omega arith })
 
-sub-next-record : tie.Need-sub-next-record Inv-loop μ-loop
-sub-next-record c = omega arith
-
-part-next-record-start : tie.Need-part-next-record-start Inv-loop μ-loop
-part-next-record-start c = omega arith
-
-part-next-record-end : tie.Need-part-next-record-end Inv-loop μ-loop
-part-next-record-end c = omega arith
-
 next-record-requires : tie.Need-next-record-requires Inv-loop μ-loop
 next-record-requires c κs = tt
 
@@ -77,12 +68,6 @@ module _ (k : tie.After-next-record Inv-loop μ-loop) where
   unfolding come
   short e = omega (arith, come-length, more-short come (unread .ended) (sym (k .next-record .ensures) ∙ e))
 
-enum-known-size : tie.Need-enum-known-size Inv-loop μ-loop
-enum-known-size c = search needs
-
-enum-told : tie.Need-enum-told Inv-loop μ-loop
-enum-told c = search needs
-
 read-on-requires : tie.Need-read-on-requires Inv-loop μ-loop
 read-on-requires c κs =
     let k = c .before .before .before in
@@ -92,23 +77,8 @@ read-on-requires c κs =
 finish-requires : tie.Need-finish-requires Inv-loop μ-loop
 finish-requires c κs = tt
 
-same-length : tie.Need-same-length Inv-loop μ-loop
-same-length c = omega arith
-
-same-length-2 : tie.Need-same-length-2 Inv-loop μ-loop
-same-length-2 c = omega arith
-
-same-length-3 : tie.Need-same-length-3 Inv-loop μ-loop
-same-length-3 c = omega arith
-
 returns : tie.Need-returns Inv-loop μ-loop
 returns c = tt
-
-add-counter : tie.Need-add-counter Inv-loop μ-loop
-add-counter c = omega arith
-
-loop-less : tie.Need-loop-less Inv-loop μ-loop
-loop-less c = omega arith
 
 loop-again : tie.Need-loop-again Inv-loop μ-loop
 loop-again c =
@@ -121,12 +91,6 @@ add-end c =
     let k = c .before .before .before in
     let l = at-loop k in
     omega (arith, within k _ (c .before .size .given .1), l .loop .inv .7, l .loop .inv .4, l .before .before .before .before .before .before .before .before .good .1 .0 .0)
-
-sub-answer-one : tie.Need-sub-answer-one Inv-loop μ-loop
-sub-answer-one c = omega arith
-
-part-answer-one-start : tie.Need-part-answer-one-start Inv-loop μ-loop
-part-answer-one-start c = omega arith
 
 part-answer-one-end : tie.Need-part-answer-one-end Inv-loop μ-loop
 part-answer-one-end c = let k = c .before .before .before .before in omega (arith, within k _ (c .before .before .size .given .1), at-loop k .loop .inv .7)
@@ -170,26 +134,11 @@ module _ (c : tie.After-answer-one Inv-loop μ-loop) where
   offset : c .answer-one .result .state .offset ≤ (in-turn .loop .counter + 1) * 32772
   offset = omega (arith, simp (length-take, length-drop) at (c .answer-one .ensures .offset-in), size .1, in-turn .loop .inv .2)
 
-enum-known-course : tie.Need-enum-known-course Inv-loop μ-loop
-enum-known-course c = search needs
-
 finish-requires-2 : tie.Need-finish-requires-2 Inv-loop μ-loop
 finish-requires-2 c κs = tt
 
-same-length-4 : tie.Need-same-length-4 Inv-loop μ-loop
-same-length-4 c = omega arith
-
-same-length-5 : tie.Need-same-length-5 Inv-loop μ-loop
-same-length-5 c = omega arith
-
-same-length-6 : tie.Need-same-length-6 Inv-loop μ-loop
-same-length-6 c = omega arith
-
 returns-2 : tie.Need-returns-2 Inv-loop μ-loop
 returns-2 c = tt
-
-enum-told-2 : tie.Need-enum-told-2 Inv-loop μ-loop
-enum-told-2 c = search needs
 
 add-after : tie.Need-add-after Inv-loop μ-loop
 add-after c = let a = c .before .before .before .before .before .before .before .before in omega (arith, counts a, turns a)
@@ -212,15 +161,6 @@ loop-again-2 c =
 finish-requires-3 : tie.Need-finish-requires-3 Inv-loop μ-loop
 finish-requires-3 c κs = tt
 
-same-length-7 : tie.Need-same-length-7 Inv-loop μ-loop
-same-length-7 c = omega arith
-
-same-length-8 : tie.Need-same-length-8 Inv-loop μ-loop
-same-length-8 c = omega arith
-
-same-length-9 : tie.Need-same-length-9 Inv-loop μ-loop
-same-length-9 c = omega arith
-
 returns-3 : tie.Need-returns-3 Inv-loop μ-loop
 returns-3 c = tt
 
@@ -234,40 +174,40 @@ answer-records-spec =
     begin-requires
     nothing-read-requires
     loop-holds
-    sub-next-record
-    part-next-record-start
-    part-next-record-end
+    (λ c. omega arith)
+    (λ c. omega arith)
+    (λ c. omega arith)
     next-record-requires
-    enum-known-size
-    enum-told
+    (λ c. search needs)
+    (λ c. search needs)
     read-on-requires
     finish-requires
-    same-length
-    same-length-2
-    same-length-3
+    (λ c. omega arith)
+    (λ c. omega arith)
+    (λ c. omega arith)
     returns
-    add-counter
-    loop-less
+    (λ c. omega arith)
+    (λ c. omega arith)
     loop-again
     add-end
-    sub-answer-one
-    part-answer-one-start
+    (λ c. omega arith)
+    (λ c. omega arith)
     part-answer-one-end
     answer-one-requires
-    enum-known-course
+    (λ c. search needs)
     finish-requires-2
-    same-length-4
-    same-length-5
-    same-length-6
+    (λ c. omega arith)
+    (λ c. omega arith)
+    (λ c. omega arith)
     returns-2
-    enum-told-2
+    (λ c. search needs)
     add-after
     after-requires
     add-counter-2
     loop-less-2
     loop-again-2
     finish-requires-3
-    same-length-7
-    same-length-8
-    same-length-9
+    (λ c. omega arith)
+    (λ c. omega arith)
+    (λ c. omega arith)
     returns-3)

@@ -16,28 +16,10 @@ use Rattle.fillin_text.proofs.text.put_field.Tie as tie
 spelt-out : (c : tie.After-decimal) → take (c .decimal .result) (c .decimal .last .1 .0) ≡ decimal (c .before .before .before .args .n)
 spelt-out c = c .decimal .ensures .1 .1 ∙ spelt (c .decimal .result) (c .before .before .before .args .n) (omega arith) (c .decimal .ensures .1 .0)
 
-decimal-requires : tie.Need-decimal-requires
-decimal-requires c κs = search needs
-
-slice-aggregate-put : tie.Need-slice-aggregate-put
-slice-aggregate-put c = search needs
-
-put-requires : tie.Need-put-requires
-put-requires c κs = search needs
-
-array-share-prefix-digits : tie.Need-array-share-prefix-digits
-array-share-prefix-digits c = search needs
-
-slice-aggregate-put-2 : tie.Need-slice-aggregate-put-2
-slice-aggregate-put-2 c = search needs
-
 put-requires-2 : tie.Need-put-requires-2
 put-requires-2 c κs =
     let d = c .before .before .before .before .before .before .before in
     omega (arith, ap length (spelt-out d), length-decimal (d .before .before .before .args .n))
-
-same-length : tie.Need-same-length
-same-length c = search needs
 
 returns : tie.Need-returns
 unfolding field
@@ -59,11 +41,11 @@ pub put-field-spec : {M : Type 1} → statement M
 put-field-spec =
     tie.close
     (tie.spec
-    decimal-requires
-    slice-aggregate-put
-    put-requires
-    array-share-prefix-digits
-    slice-aggregate-put-2
+    (λ c κs. search needs)
+    (λ c. search needs)
+    (λ c κs. search needs)
+    (λ c. search needs)
+    (λ c. search needs)
     put-requires-2
-    same-length
+    (λ c. search needs)
     returns)

@@ -10,21 +10,6 @@ use borrow.Author.Needs.{needs}
 use Rattle.fillin_text.proofs.text.put_output.Statement.{statement}
 use Rattle.fillin_text.proofs.text.put_output.Tie as tie
 
-bits-of-requires : tie.Need-bits-of-requires
-bits-of-requires c κs = search needs
-
-hex-field-requires : tie.Need-hex-field-requires
-hex-field-requires c κs = search needs
-
-slice-aggregate-put : tie.Need-slice-aggregate-put
-slice-aggregate-put c = search needs
-
-put-requires : tie.Need-put-requires
-put-requires c κs = search needs
-
-same-length : tie.Need-same-length
-same-length c = search needs
-
 returns : tie.Need-returns
 returns c =
     let p = c .before .before in
@@ -37,9 +22,9 @@ pub put-output-spec : {M : Type 1} → statement M
 put-output-spec =
     tie.close
     (tie.spec
-    bits-of-requires
-    hex-field-requires
-    slice-aggregate-put
-    put-requires
-    same-length
+    (λ c κs. search needs)
+    (λ c κs. search needs)
+    (λ c. search needs)
+    (λ c κs. search needs)
+    (λ c. search needs)
     returns)

@@ -50,23 +50,11 @@ module _ (c : tie.After-close Inv-loop μ-loop) where
       c .close .last .1 .1 .1 .1 .0 ≡ set (l .y) (l .row) (rowMet (a .l) (a .slots .now) (l .row)))
   filled-on = ap (λ (p : Said (Unit {0}) × List Float). p .1) turn
 
-enum-told : tie.Need-enum-told Inv-loop μ-loop
-enum-told c = search needs
-
-enum-told-2 : tie.Need-enum-told-2 Inv-loop μ-loop
-enum-told-2 c = search needs
-
 same-length : tie.Need-same-length Inv-loop μ-loop
 same-length c = absurd (never-refused _ _ (closed (c .before .before .before .before)) (c .enum-told2 .given .1))
 
 returns : tie.Need-returns Inv-loop μ-loop
 returns c = absurd (never-refused _ _ (closed (c .before .before .before .before)) (c .enum-told2 .given .1))
-
-add-row : tie.Need-add-row Inv-loop μ-loop
-add-row c = omega arith
-
-loop-less : tie.Need-loop-less Inv-loop μ-loop
-loop-less c = omega arith
 
 loop-again : tie.Need-loop-again Inv-loop μ-loop
 loop-again c =
@@ -91,4 +79,4 @@ returns-2 c =
     (refl, l .inv .0 ∙ ap (filled _ _) e)
 
 pub close-rows-spec : {M : Type 1} → statement M
-close-rows-spec = tie.close (tie.spec Inv-loop μ-loop loop-holds close-requires enum-told enum-told-2 same-length returns add-row loop-less loop-again same-length-2 returns-2)
+close-rows-spec = tie.close (tie.spec Inv-loop μ-loop loop-holds close-requires (λ c. search needs) (λ c. search needs) same-length returns (λ c. omega arith) (λ c. omega arith) loop-again same-length-2 returns-2)

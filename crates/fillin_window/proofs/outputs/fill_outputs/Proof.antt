@@ -14,21 +14,6 @@ use Rattle.fillin_window.proofs.Rows.{open-done, Worked, worked}
 use Rattle.fillin_window.proofs.outputs.fill_outputs.Statement.{statement}
 use Rattle.fillin_window.proofs.outputs.fill_outputs.Tie as tie
 
-slice-aggregate-open : tie.Need-slice-aggregate-open
-slice-aggregate-open c = search needs
-
-slice-aggregate-open-2 : tie.Need-slice-aggregate-open-2
-slice-aggregate-open-2 c = search needs
-
-open-requires : tie.Need-open-requires
-open-requires c κs = search needs
-
-enum-told : tie.Need-enum-told
-enum-told c = search needs
-
-enum-told-2 : tie.Need-enum-told-2
-enum-told-2 c = search needs
-
 -- after the run every piece is done, and each row meets in its dot
 module _ (c : tie.After-run) where
   abbrev pieced : tie.After-piece
@@ -56,44 +41,11 @@ opens c =
 returns : tie.Need-returns
 returns c = absurd (never-refused _ _ (opens (c .before .before .before .before)) (c .enum-told2 .given .1))
 
-slice-aggregate-piece : tie.Need-slice-aggregate-piece
-slice-aggregate-piece c = search needs
-
-slice-aggregate-piece-2 : tie.Need-slice-aggregate-piece-2
-slice-aggregate-piece-2 c = search needs
-
-piece-requires : tie.Need-piece-requires
-piece-requires c κs = search needs
-
-slice-aggregate-run : tie.Need-slice-aggregate-run
-slice-aggregate-run c = search needs
-
-slice-aggregate-run-2 : tie.Need-slice-aggregate-run-2
-slice-aggregate-run-2 c = search needs
-
-run-requires : tie.Need-run-requires
-run-requires c κs = search needs
-
-enum-known-ran : tie.Need-enum-known-ran
-enum-known-ran c = search needs
-
 returns-2 : tie.Need-returns-2
 returns-2 c = absurd (facts (c .before .before .before .before .before) .not-refused _ (ap progressSays (c .before .ran .given .1)))
 
-enum-told-3 : tie.Need-enum-told-3
-enum-told-3 c = search needs
-
-slice-aggregate-close-rows : tie.Need-slice-aggregate-close-rows
-slice-aggregate-close-rows c = search needs
-
-slice-aggregate-close-rows-2 : tie.Need-slice-aggregate-close-rows-2
-slice-aggregate-close-rows-2 c = search needs
-
 close-rows-requires : tie.Need-close-rows-requires
 close-rows-requires c κs = let f = facts (c .before .before .before .before .before .before .before) in (f .runs-out, c .before .before .before .before .before .before .before .before .before .before .before .before .before .before .before .before .before .before .before .before .before .before .before .before .before .pre .2)
-
-same-length : tie.Need-same-length
-same-length c = search needs
 
 returns-3 : tie.Need-returns-3
 returns-3 c = let f = facts (c .before .before .before .before .before .before .before .before .before .before) in (c .before .before .close-rows .ensures .0, c .before .before .close-rows .ensures .1 ∙ f .dots _)
@@ -101,5 +53,5 @@ returns-3 c = let f = facts (c .before .before .before .before .before .before .
 pub fill-outputs-spec : {M : Type 1} → statement M
 fill-outputs-spec =
     tie.close
-    (tie.spec slice-aggregate-open slice-aggregate-open-2 open-requires enum-told enum-told-2 returns slice-aggregate-piece slice-aggregate-piece-2 piece-requires slice-aggregate-run slice-aggregate-run-2 run-requires enum-known-ran returns-2 enum-told-3 slice-aggregate-close-rows
-    slice-aggregate-close-rows-2 close-rows-requires same-length returns-3)
+    (tie.spec (λ c. search needs) (λ c. search needs) (λ c κs. search needs) (λ c. search needs) (λ c. search needs) returns (λ c. search needs) (λ c. search needs) (λ c κs. search needs) (λ c. search needs) (λ c. search needs) (λ c κs. search needs) (λ c. search needs) returns-2 (λ c. search needs) (λ c. search needs)
+    (λ c. search needs) close-rows-requires (λ c. search needs) returns-3)

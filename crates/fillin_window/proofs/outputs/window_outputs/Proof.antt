@@ -14,12 +14,6 @@ use Rattle.fillin_window.specs.Windows.{readingsOf, outputsOf}
 use Rattle.fillin_window.proofs.outputs.window_outputs.Statement.{statement}
 use Rattle.fillin_window.proofs.outputs.window_outputs.Tie as tie
 
-readings-room-requires : tie.Need-readings-room-requires
-readings-room-requires c κs = search needs
-
-array-borrow-prefix-x : tie.Need-array-borrow-prefix-x
-array-borrow-prefix-x c = search needs
-
 -- the part of the room that is lent has a place for each reading
 lent : (c : tie.After-x) → (let n = c .before .before .before .before .before .args .l .«in_feat» in length (take n (c .before .readings-room .result)) ≡ n)
 lent c =
@@ -62,9 +56,6 @@ fill-outputs-requires c κs =
     let t = start d in
     (t .pre .0, ap length (front d) ∙ as-many d, t .pre .2)
 
-same-length : tie.Need-same-length
-same-length c = search needs
-
 returns : tie.Need-returns
 returns c =
     let d = c .before .before .before .before .before .before in
@@ -74,4 +65,4 @@ returns c =
 
 pub window-outputs-spec : {M : Type 1} → statement M
 window-outputs-spec =
-    tie.close (tie.spec readings-room-requires array-borrow-prefix-x slice-aggregate-readings readings-requires array-share-prefix-x slice-aggregate-fill-outputs fill-outputs-requires same-length returns)
+    tie.close (tie.spec (λ c κs. search needs) (λ c. search needs) slice-aggregate-readings readings-requires array-share-prefix-x slice-aggregate-fill-outputs fill-outputs-requires (λ c. search needs) returns)

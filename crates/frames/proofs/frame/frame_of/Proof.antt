@@ -14,9 +14,6 @@ use Rattle.frames.proofs.frame.frame_of.Tie as tie
 returns : tie.Need-returns
 returns c = ap frontOf (sym (frame-ended _ (c .if1 .taken)))
 
-is-whole-requires : tie.Need-is-whole-requires
-is-whole-requires c κs = search needs
-
 returns-2 : tie.Need-returns-2
 returns-2 c = ap frontOf (sym (frame-torn _ (c .before .before .if1 .left) (sym (c .before .is-whole .ensures) ∙ not-true _ (c .if2 .taken))))
 
@@ -30,4 +27,4 @@ returns-3 : tie.Need-returns-3
 returns-3 c = ap Whole (c .u16-at .ensures .0) ∙ ap frontOf (sym (frame-whole _ (stands (c .before))))
 
 pub frame-of-spec : {M : Type 1} → statement M
-frame-of-spec = tie.close (tie.spec returns is-whole-requires returns-2 u16-at-requires returns-3)
+frame-of-spec = tie.close (tie.spec returns (λ c κs. search needs) returns-2 u16-at-requires returns-3)

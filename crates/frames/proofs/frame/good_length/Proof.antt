@@ -16,9 +16,6 @@ returns : tie.Need-returns
 unfolding goodLength
 returns c = simp (lt-leb _ _ (c .if1 .taken))
 
-u32-at-requires : tie.Need-u32-at-requires
-u32-at-requires c κs = search needs
-
 -- a field n that is there, below 2 or not
 few : (s : List ℕ) (n : ℕ) → n ≡ le32 s 0 → n < 2 → false ≡ goodLength s
 unfolding goodLength
@@ -35,4 +32,4 @@ returns-3 : tie.Need-returns-3
 returns-3 c = enough _ _ (c .before .before .if1 .left) (c .before .u32-at .ensures .0) (c .if2 .left)
 
 pub good-length-spec : {M : Type 1} → statement M
-good-length-spec = tie.close (tie.spec returns u32-at-requires returns-2 returns-3)
+good-length-spec = tie.close (tie.spec returns (λ c κs. search needs) returns-2 returns-3)

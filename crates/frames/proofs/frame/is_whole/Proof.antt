@@ -11,9 +11,6 @@ use Rattle.frames.specs.Frame.{goodLength, sizeOf, isWhole}
 use Rattle.frames.proofs.frame.is_whole.Statement.{statement}
 use Rattle.frames.proofs.frame.is_whole.Tie as tie
 
-good-length-requires : tie.Need-good-length-requires
-good-length-requires c κs = search needs
-
 bad : (s : List ℕ) → goodLength s ≡ false → false ≡ isWhole s
 unfolding isWhole
 bad s e = simp e
@@ -25,11 +22,8 @@ sized s n e f = simp (e, f)
 returns : tie.Need-returns
 returns c = bad _ (sym (c .before .good-length .ensures) ∙ not-true _ (c .if1 .taken))
 
-size-of-requires : tie.Need-size-of-requires
-size-of-requires c κs = search needs
-
 returns-2 : tie.Need-returns-2
 returns-2 c = sized _ _ (sym (c .before .before .good-length .ensures) ∙ not-false _ (c .before .if1 .left)) (c .size-of .ensures .0)
 
 pub is-whole-spec : {M : Type 1} → statement M
-is-whole-spec = tie.close (tie.spec good-length-requires returns size-of-requires returns-2)
+is-whole-spec = tie.close (tie.spec (λ c κs. search needs) returns (λ c κs. search needs) returns-2)

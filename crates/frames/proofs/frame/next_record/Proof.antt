@@ -10,9 +10,6 @@ use Rattle.frames.proofs.Pieces.{next-whole, next-left, next-more}
 use Rattle.frames.proofs.frame.next_record.Statement.{statement}
 use Rattle.frames.proofs.frame.next_record.Tie as tie
 
-size-of-requires : tie.Need-size-of-requires
-size-of-requires c κs = search needs
-
 returns : tie.Need-returns
 returns c =
     let size = c .before .size-of .ensures .0 in
@@ -39,4 +36,4 @@ returns-3 c =
     sym (next-more rest (short (c .before))) ∙ ap (nextIn rest) (sym (c .if2 .left))
 
 pub next-record-spec : {M : Type 1} → statement M
-next-record-spec = tie.close (tie.spec size-of-requires returns returns-2 returns-3)
+next-record-spec = tie.close (tie.spec (λ c κs. search needs) returns returns-2 returns-3)

@@ -13,12 +13,6 @@ use Rattle.frames.proofs.Whole.{whole-size, frame-whole, frame-none}
 use Rattle.frames.proofs.frame.payload.Statement.{statement}
 use Rattle.frames.proofs.frame.payload.Tie as tie
 
-is-whole-requires : tie.Need-is-whole-requires
-is-whole-requires c κs = search needs
-
-size-of-requires : tie.Need-size-of-requires
-size-of-requires c κs = search needs
-
 stands : (c : tie.Then1) → isWhole (now (c .before .before .before .args .s)) ≡ true
 stands c = sym (c .before .is-whole .ensures) ∙ c .if1 .taken
 
@@ -38,9 +32,6 @@ part-result-start c = omega (arith, within c)
 part-result-end : tie.Need-part-result-end
 part-result-end c = omega (arith, within c)
 
-slice-aggregate-result : tie.Need-slice-aggregate-result
-slice-aggregate-result c = search needs
-
 returns : tie.Need-returns
 returns c =
     let s = now (c .before .before .before .before .before .args .s) in
@@ -52,4 +43,4 @@ returns-2 c = sym (frame-none _ (sym (c .before .before .is-whole .ensures) ∙ 
 pub payload-spec : {M : Type 1} → statement M
 payload-spec =
     tie.close
-    (tie.spec is-whole-requires size-of-requires sub-result part-result-start part-result-end slice-aggregate-result returns returns-2)
+    (tie.spec (λ c κs. search needs) (λ c κs. search needs) sub-result part-result-start part-result-end (λ c. search needs) returns returns-2)

@@ -9,17 +9,11 @@ use Rattle.frames.proofs.Whole.{good, size-good, size-bad}
 use Rattle.frames.proofs.frame.size_of.Statement.{statement}
 use Rattle.frames.proofs.frame.size_of.Tie as tie
 
-good-length-requires : tie.Need-good-length-requires
-good-length-requires c κs = search needs
-
 is-good : (c : tie.Then1) → goodLength (now (c .before .before .before .args .s)) ≡ true
 is-good c = sym (c .before .good-length .ensures) ∙ c .if1 .taken
 
 u32-at-requires : tie.Need-u32-at-requires
 u32-at-requires c κs = good _ (is-good c) .0
-
-add-result : tie.Need-add-result
-add-result c = search needs
 
 returns : tie.Need-returns
 returns c =
@@ -31,4 +25,4 @@ returns-2 : tie.Need-returns-2
 returns-2 c = (sym (size-bad _ (sym (c .before .good-length .ensures) ∙ c .if1 .left)), omega arith)
 
 pub size-of-spec : {M : Type 1} → statement M
-size-of-spec = tie.close (tie.spec good-length-requires u32-at-requires add-result returns returns-2)
+size-of-spec = tie.close (tie.spec (λ c κs. search needs) u32-at-requires (λ c. search needs) returns returns-2)

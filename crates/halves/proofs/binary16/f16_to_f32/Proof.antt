@@ -14,15 +14,6 @@ use Rattle.halves.proofs.binary16.f16_to_f32.Tie as tie
 pos-of : (x : ℕ) → (x ≡ 0 → ⊥) → 0 < x
 pos-of x n = omega arith
 
-cast-sign : tie.Need-cast-sign
-cast-sign c = search needs
-
-cast-exp : tie.Need-cast-exp
-cast-exp c = search needs
-
-cast-mant : tie.Need-cast-mant
-cast-mant c = search needs
-
 mul-result : tie.Need-mul-result
 mul-result c = search needs
 
@@ -54,9 +45,6 @@ returns-3 c =
     ∙ ap (λ (n : ℕ). round binary32 (negative h) n (2 ^ 24)) (sym (c .if4 .taken))
     ∙ sym (at-finite h 0 (c .before .if3 .taken) (c .before .before .if1 .left))
 
-subnormal-requires : tie.Need-subnormal-requires
-subnormal-requires c κs = search needs
-
 returns-4 : tie.Need-returns-4
 returns-4 c =
     let d = c .before .before in
@@ -64,15 +52,6 @@ returns-4 c =
     c .subnormal .ensures
     ∙ ap (λ (s : Bool). round binary32 s (digits h) (2 ^ 24)) (sign-bit h (omega arith))
     ∙ sym (at-finite h 0 (d .if3 .taken) (d .before .if1 .left))
-
-add-normal : tie.Need-add-normal
-add-normal c = search needs
-
-add-normal-2 : tie.Need-add-normal-2
-add-normal-2 c = search needs
-
-normal-requires : tie.Need-normal-requires
-normal-requires c κs = search needs
 
 returns-5 : tie.Need-returns-5
 returns-5 c =
@@ -87,9 +66,9 @@ pub f16-to-f32-spec : {M : Type 1} → statement M
 f16-to-f32-spec =
     tie.close
     (tie.spec
-    cast-sign
-    cast-exp
-    cast-mant
+    (λ c. search needs)
+    (λ c. search needs)
+    (λ c. search needs)
     mul-result
     add-result
     float-from-bits-result
@@ -98,9 +77,9 @@ f16-to-f32-spec =
     mul-result-2
     float-from-bits-result-2
     returns-3
-    subnormal-requires
+    (λ c κs. search needs)
     returns-4
-    add-normal
-    add-normal-2
-    normal-requires
+    (λ c. search needs)
+    (λ c. search needs)
+    (λ c κs. search needs)
     returns-5)

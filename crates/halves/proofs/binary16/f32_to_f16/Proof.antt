@@ -7,14 +7,8 @@ use Rattle.halves.specs.Binary16.{narrowed}
 use Rattle.halves.proofs.binary16.f32_to_f16.Statement.{statement}
 use Rattle.halves.proofs.binary16.f32_to_f16.Tie as tie
 
-cast-sign : tie.Need-cast-sign
-cast-sign c = omega arith
-
 mul-result : tie.Need-mul-result
 mul-result c = omega arith
-
-narrowed-magnitude-requires : tie.Need-narrowed-magnitude-requires
-narrowed-magnitude-requires c κs = search needs
 
 add-result : tie.Need-add-result
 add-result c = omega arith
@@ -27,8 +21,8 @@ pub f32-to-f16-spec : {M : Type 1} → statement M
 f32-to-f16-spec =
     tie.close
     (tie.spec
-    cast-sign
+    (λ c. omega arith)
     mul-result
-    narrowed-magnitude-requires
+    (λ c κs. search needs)
     add-result
     returns)

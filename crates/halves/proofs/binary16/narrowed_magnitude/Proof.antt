@@ -10,17 +10,11 @@ returns c = (rw (le-leb _ _ (c .if1 .taken)), omega arith)
 returns-2 : tie.Need-returns-2
 returns-2 c = (rw (lt-leb _ _ (c .before .if1 .left), le-leb _ _ (c .if2 .taken)), omega arith)
 
-sub-result : tie.Need-sub-result
-sub-result c = omega arith
-
 mul-result : tie.Need-mul-result
 mul-result c = omega arith
 
 add-result : tie.Need-add-result
 add-result c = omega arith
-
-cast-result : tie.Need-cast-result
-cast-result c = omega arith
 
 returns-3 : tie.Need-returns-3
 returns-3 c = (rw (lt-leb _ _ (c .before .if1 .left), lt-leb _ _ (c .if2 .left)), omega arith)
@@ -31,8 +25,8 @@ narrowed-magnitude-spec =
     (tie.spec
     returns
     returns-2
-    sub-result
+    (λ c. omega arith)
     mul-result
     add-result
-    cast-result
+    (λ c. omega arith)
     returns-3)

@@ -13,15 +13,6 @@ mul-result-2 c = search needs
 add-result : tie.Need-add-result
 add-result c = search needs
 
-sub-result : tie.Need-sub-result
-sub-result c = search needs
-
-mul-result-3 : tie.Need-mul-result-3
-mul-result-3 c = search needs
-
-add-result-2 : tie.Need-add-result-2
-add-result-2 c = search needs
-
 float-from-bits-result : tie.Need-float-from-bits-result
 float-from-bits-result c =
     let a = c .args in
@@ -41,8 +32,8 @@ normal-spec =
     mul-result
     mul-result-2
     add-result
-    sub-result
-    mul-result-3
-    add-result-2
+    (λ c. search needs)
+    (λ c. search needs)
+    (λ c. search needs)
     float-from-bits-result
     returns)

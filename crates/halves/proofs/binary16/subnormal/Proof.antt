@@ -25,9 +25,6 @@ above c =
     let k : 113 - l .exp < 10 = few (c .before .before .args .mant) (113 - l .exp) (c .before .before .pre .1) (subst (λ (z : ℕ). z < 1024) (l .inv .0) (c .loop-test .taken)) in
     omega arith
 
-mul-digits : tie.Need-mul-digits Inv-loop μ-loop
-mul-digits c = omega arith
-
 sub-exp : tie.Need-sub-exp Inv-loop μ-loop
 sub-exp c = omega (arith, above c)
 
@@ -39,9 +36,6 @@ loop-again c =
     let l = c .before .loop in
     let h : 1 ≤ l .exp = omega (arith, above c) in
     (ap (λ (z : ℕ). z * 2) (l .inv .0) ∙ once-more (c .before .before .args .mant) (l .exp) h (l .inv .1), omega arith, omega (arith, above c), omega arith)
-
-normal-requires : tie.Need-normal-requires Inv-loop μ-loop
-normal-requires c κs = omega arith
 
 returns : tie.Need-returns Inv-loop μ-loop
 returns c =
@@ -56,4 +50,4 @@ returns c =
 pub subnormal-spec : {M : Type 1} → statement M
 subnormal-spec =
     tie.close
-    (tie.spec Inv-loop μ-loop loop-holds mul-digits sub-exp loop-less loop-again normal-requires returns)
+    (tie.spec Inv-loop μ-loop loop-holds (λ c. omega arith) sub-exp loop-less loop-again (λ c κs. omega arith) returns)

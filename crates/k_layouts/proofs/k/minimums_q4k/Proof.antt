@@ -15,38 +15,8 @@ Inv-loop block dmin m₀ j₀ m j = Filling (dminMinimum block) m₀ 8 m j
 abbrev μ-loop : tie.MeasureT-loop
 μ-loop block dmin m₀ j₀ m j = 8 - j
 
-shared-slice-read-le-u16 : tie.Need-shared-slice-read-le-u16 Inv-loop μ-loop
-shared-slice-read-le-u16 c = omega arith
-
-shared-slice-read-le-u16-2 : tie.Need-shared-slice-read-le-u16-2 Inv-loop μ-loop
-shared-slice-read-le-u16-2 c = omega arith
-
-le-u16-requires : tie.Need-le-u16-requires Inv-loop μ-loop
-le-u16-requires c κs = search needs
-
-f16-to-f32-requires : tie.Need-f16-to-f32-requires Inv-loop μ-loop
-f16-to-f32-requires c κs = search needs
-
 loop-holds : tie.Need-loop-holds Inv-loop μ-loop
 loop-holds c = filling-start (dminMinimum (c .before .before .before .before .before .args .block .now)) _ 8 refl
-
-minimum-q4k-requires : tie.Need-minimum-q4k-requires Inv-loop μ-loop
-minimum-q4k-requires c κs = search needs
-
-int-to-float-m : tie.Need-int-to-float-m Inv-loop μ-loop
-int-to-float-m c = search needs
-
-mul-m : tie.Need-mul-m Inv-loop μ-loop
-mul-m c = omega arith
-
-array-write-m : tie.Need-array-write-m Inv-loop μ-loop
-array-write-m c = omega arith
-
-add-j : tie.Need-add-j Inv-loop μ-loop
-add-j c = omega arith
-
-loop-less : tie.Need-loop-less Inv-loop μ-loop
-loop-less c = omega arith
 
 loop-again : tie.Need-loop-again Inv-loop μ-loop
 loop-again c =
@@ -67,16 +37,16 @@ minimums-q4k-spec =
     (tie.spec
     Inv-loop
     μ-loop
-    shared-slice-read-le-u16
-    shared-slice-read-le-u16-2
-    le-u16-requires
-    f16-to-f32-requires
+    (λ c. omega arith)
+    (λ c. omega arith)
+    (λ c κs. search needs)
+    (λ c κs. search needs)
     loop-holds
-    minimum-q4k-requires
-    int-to-float-m
-    mul-m
-    array-write-m
-    add-j
-    loop-less
+    (λ c κs. search needs)
+    (λ c. search needs)
+    (λ c. omega arith)
+    (λ c. omega arith)
+    (λ c. omega arith)
+    (λ c. omega arith)
     loop-again
     returns)

@@ -19,81 +19,6 @@ abbrev μ-loop : tie.MeasureT-loop
 loop-holds : tie.Need-loop-holds Inv-loop μ-loop
 loop-holds c = streamed-none (quantQ4K (c .args .block .now)) 0 (replicate 256 0) refl
 
-add-a : tie.Need-add-a Inv-loop μ-loop
-add-a c = omega arith
-
-shared-slice-read-a : tie.Need-shared-slice-read-a Inv-loop μ-loop
-shared-slice-read-a c = omega arith
-
-add-b : tie.Need-add-b Inv-loop μ-loop
-add-b c = omega arith
-
-shared-slice-read-b : tie.Need-shared-slice-read-b Inv-loop μ-loop
-shared-slice-read-b c = omega arith
-
-add-c : tie.Need-add-c Inv-loop μ-loop
-add-c c = omega arith
-
-shared-slice-read-c : tie.Need-shared-slice-read-c Inv-loop μ-loop
-shared-slice-read-c c = omega arith
-
-add-d : tie.Need-add-d Inv-loop μ-loop
-add-d c = omega arith
-
-shared-slice-read-d : tie.Need-shared-slice-read-d Inv-loop μ-loop
-shared-slice-read-d c = omega arith
-
-array-write-q : tie.Need-array-write-q Inv-loop μ-loop
-array-write-q c = omega arith
-
-add-q : tie.Need-add-q Inv-loop μ-loop
-add-q c = omega arith
-
-array-write-q-2 : tie.Need-array-write-q-2 Inv-loop μ-loop
-array-write-q-2 c = omega arith
-
-add-q-2 : tie.Need-add-q-2 Inv-loop μ-loop
-add-q-2 c = omega arith
-
-array-write-q-3 : tie.Need-array-write-q-3 Inv-loop μ-loop
-array-write-q-3 c = omega arith
-
-add-q-3 : tie.Need-add-q-3 Inv-loop μ-loop
-add-q-3 c = omega arith
-
-array-write-q-4 : tie.Need-array-write-q-4 Inv-loop μ-loop
-array-write-q-4 c = omega arith
-
-add-q-4 : tie.Need-add-q-4 Inv-loop μ-loop
-add-q-4 c = omega arith
-
-array-write-q-5 : tie.Need-array-write-q-5 Inv-loop μ-loop
-array-write-q-5 c = omega arith
-
-add-q-5 : tie.Need-add-q-5 Inv-loop μ-loop
-add-q-5 c = omega arith
-
-array-write-q-6 : tie.Need-array-write-q-6 Inv-loop μ-loop
-array-write-q-6 c = omega arith
-
-add-q-6 : tie.Need-add-q-6 Inv-loop μ-loop
-add-q-6 c = omega arith
-
-array-write-q-7 : tie.Need-array-write-q-7 Inv-loop μ-loop
-array-write-q-7 c = omega arith
-
-add-q-7 : tie.Need-add-q-7 Inv-loop μ-loop
-add-q-7 c = omega arith
-
-array-write-q-8 : tie.Need-array-write-q-8 Inv-loop μ-loop
-array-write-q-8 c = omega arith
-
-add-l : tie.Need-add-l Inv-loop μ-loop
-add-l c = omega arith
-
-loop-less : tie.Need-loop-less Inv-loop μ-loop
-loop-less c = omega arith
-
 loop-again : tie.Need-loop-again Inv-loop μ-loop
 loop-again c =
     let d = c .before .before .before .before .before in
@@ -122,30 +47,30 @@ quants-q4k-spec =
     Inv-loop
     μ-loop
     loop-holds
-    add-a
-    shared-slice-read-a
-    add-b
-    shared-slice-read-b
-    add-c
-    shared-slice-read-c
-    add-d
-    shared-slice-read-d
-    array-write-q
-    add-q
-    array-write-q-2
-    add-q-2
-    array-write-q-3
-    add-q-3
-    array-write-q-4
-    add-q-4
-    array-write-q-5
-    add-q-5
-    array-write-q-6
-    add-q-6
-    array-write-q-7
-    add-q-7
-    array-write-q-8
-    add-l
-    loop-less
+    (λ c. omega arith)
+    (λ c. omega arith)
+    (λ c. omega arith)
+    (λ c. omega arith)
+    (λ c. omega arith)
+    (λ c. omega arith)
+    (λ c. omega arith)
+    (λ c. omega arith)
+    (λ c. omega arith)
+    (λ c. omega arith)
+    (λ c. omega arith)
+    (λ c. omega arith)
+    (λ c. omega arith)
+    (λ c. omega arith)
+    (λ c. omega arith)
+    (λ c. omega arith)
+    (λ c. omega arith)
+    (λ c. omega arith)
+    (λ c. omega arith)
+    (λ c. omega arith)
+    (λ c. omega arith)
+    (λ c. omega arith)
+    (λ c. omega arith)
+    (λ c. omega arith)
+    (λ c. omega arith)
     loop-again
     returns)

@@ -24,113 +24,17 @@ abbrev μ-loop : tie.MeasureT-loop
 loop-holds : tie.Need-loop-holds Inv-loop μ-loop
 loop-holds c = streamed-none (quantQ6K (c .before .args .block .now)) (pos 0) (replicate 256 (pos 0)) refl
 
-shared-slice-read-a : tie.Need-shared-slice-read-a Inv-loop μ-loop
-shared-slice-read-a c = omega arith
-
-add-b : tie.Need-add-b Inv-loop μ-loop
-add-b c = omega arith
-
-shared-slice-read-b : tie.Need-shared-slice-read-b Inv-loop μ-loop
-shared-slice-read-b c = omega arith
-
-add-c : tie.Need-add-c Inv-loop μ-loop
-add-c c = omega arith
-
-shared-slice-read-c : tie.Need-shared-slice-read-c Inv-loop μ-loop
-shared-slice-read-c c = omega arith
-
-add-d : tie.Need-add-d Inv-loop μ-loop
-add-d c = omega arith
-
-shared-slice-read-d : tie.Need-shared-slice-read-d Inv-loop μ-loop
-shared-slice-read-d c = omega arith
-
-add-h : tie.Need-add-h Inv-loop μ-loop
-add-h c = omega arith
-
-shared-slice-read-h : tie.Need-shared-slice-read-h Inv-loop μ-loop
-shared-slice-read-h c = omega arith
-
-add-g : tie.Need-add-g Inv-loop μ-loop
-add-g c = omega arith
-
-shared-slice-read-g : tie.Need-shared-slice-read-g Inv-loop μ-loop
-shared-slice-read-g c = omega arith
-
-six-bits-requires : tie.Need-six-bits-requires Inv-loop μ-loop
-six-bits-requires c κs = omega arith
-
-array-set-from-q : tie.Need-array-set-from-q Inv-loop μ-loop
-array-set-from-q c = omega arith
-
-six-bits-requires-2 : tie.Need-six-bits-requires-2 Inv-loop μ-loop
-six-bits-requires-2 c κs = omega arith
-
-add-q : tie.Need-add-q Inv-loop μ-loop
-add-q c = omega arith
-
-array-set-from-q-2 : tie.Need-array-set-from-q-2 Inv-loop μ-loop
-array-set-from-q-2 c = omega arith
-
 six-bits-requires-3 : tie.Need-six-bits-requires-3 Inv-loop μ-loop
 six-bits-requires-3 c κs = omega (arith, c .before .before .shared-slice-known7 .given (c .before .before .before .before .before .before .before .before .before .loop .l))
-
-add-q-2 : tie.Need-add-q-2 Inv-loop μ-loop
-add-q-2 c = omega arith
-
-array-set-from-q-3 : tie.Need-array-set-from-q-3 Inv-loop μ-loop
-array-set-from-q-3 c = omega arith
 
 six-bits-requires-4 : tie.Need-six-bits-requires-4 Inv-loop μ-loop
 six-bits-requires-4 c κs = omega (arith, c .before .before .before .shared-slice-known7 .given (32 + c .before .before .before .before .before .before .before .before .before .before .loop .l))
 
-add-q-3 : tie.Need-add-q-3 Inv-loop μ-loop
-add-q-3 c = omega arith
-
-array-set-from-q-4 : tie.Need-array-set-from-q-4 Inv-loop μ-loop
-array-set-from-q-4 c = omega arith
-
-six-bits-requires-5 : tie.Need-six-bits-requires-5 Inv-loop μ-loop
-six-bits-requires-5 c κs = omega arith
-
-add-q-4 : tie.Need-add-q-4 Inv-loop μ-loop
-add-q-4 c = omega arith
-
-array-set-from-q-5 : tie.Need-array-set-from-q-5 Inv-loop μ-loop
-array-set-from-q-5 c = omega arith
-
-six-bits-requires-6 : tie.Need-six-bits-requires-6 Inv-loop μ-loop
-six-bits-requires-6 c κs = omega arith
-
-add-q-5 : tie.Need-add-q-5 Inv-loop μ-loop
-add-q-5 c = omega arith
-
-array-set-from-q-6 : tie.Need-array-set-from-q-6 Inv-loop μ-loop
-array-set-from-q-6 c = omega arith
-
 six-bits-requires-7 : tie.Need-six-bits-requires-7 Inv-loop μ-loop
 six-bits-requires-7 c κs = omega (arith, c .before .before .before .before .before .before .shared-slice-known7 .given (64 + c .before .before .before .before .before .before .before .before .before .before .before .before .before .loop .l))
 
-add-q-6 : tie.Need-add-q-6 Inv-loop μ-loop
-add-q-6 c = omega arith
-
-array-set-from-q-7 : tie.Need-array-set-from-q-7 Inv-loop μ-loop
-array-set-from-q-7 c = omega arith
-
 six-bits-requires-8 : tie.Need-six-bits-requires-8 Inv-loop μ-loop
 six-bits-requires-8 c κs = omega (arith, c .before .before .before .before .before .before .before .shared-slice-known7 .given (96 + c .before .before .before .before .before .before .before .before .before .before .before .before .before .before .loop .l))
-
-add-q-7 : tie.Need-add-q-7 Inv-loop μ-loop
-add-q-7 c = omega arith
-
-array-set-from-q-8 : tie.Need-array-set-from-q-8 Inv-loop μ-loop
-array-set-from-q-8 c = omega arith
-
-add-l : tie.Need-add-l Inv-loop μ-loop
-add-l c = omega arith
-
-loop-less : tie.Need-loop-less Inv-loop μ-loop
-loop-less c = omega arith
 
 loop-again : tie.Need-loop-again Inv-loop μ-loop
 loop-again c =
@@ -167,41 +71,41 @@ quants-q6k-spec =
     Inv-loop
     μ-loop
     loop-holds
-    shared-slice-read-a
-    add-b
-    shared-slice-read-b
-    add-c
-    shared-slice-read-c
-    add-d
-    shared-slice-read-d
-    add-h
-    shared-slice-read-h
-    add-g
-    shared-slice-read-g
-    six-bits-requires
-    array-set-from-q
-    six-bits-requires-2
-    add-q
-    array-set-from-q-2
+    (λ c. omega arith)
+    (λ c. omega arith)
+    (λ c. omega arith)
+    (λ c. omega arith)
+    (λ c. omega arith)
+    (λ c. omega arith)
+    (λ c. omega arith)
+    (λ c. omega arith)
+    (λ c. omega arith)
+    (λ c. omega arith)
+    (λ c. omega arith)
+    (λ c κs. omega arith)
+    (λ c. omega arith)
+    (λ c κs. omega arith)
+    (λ c. omega arith)
+    (λ c. omega arith)
     six-bits-requires-3
-    add-q-2
-    array-set-from-q-3
+    (λ c. omega arith)
+    (λ c. omega arith)
     six-bits-requires-4
-    add-q-3
-    array-set-from-q-4
-    six-bits-requires-5
-    add-q-4
-    array-set-from-q-5
-    six-bits-requires-6
-    add-q-5
-    array-set-from-q-6
+    (λ c. omega arith)
+    (λ c. omega arith)
+    (λ c κs. omega arith)
+    (λ c. omega arith)
+    (λ c. omega arith)
+    (λ c κs. omega arith)
+    (λ c. omega arith)
+    (λ c. omega arith)
     six-bits-requires-7
-    add-q-6
-    array-set-from-q-7
+    (λ c. omega arith)
+    (λ c. omega arith)
     six-bits-requires-8
-    add-q-7
-    array-set-from-q-8
-    add-l
-    loop-less
+    (λ c. omega arith)
+    (λ c. omega arith)
+    (λ c. omega arith)
+    (λ c. omega arith)
     loop-again
     returns)

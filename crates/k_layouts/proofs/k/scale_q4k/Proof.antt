@@ -4,21 +4,6 @@ use Rattle.k_layouts.proofs.Scales.{scale-low, scale-high}
 use Rattle.k_layouts.proofs.k.scale_q4k.Statement.{statement}
 use Rattle.k_layouts.proofs.k.scale_q4k.Tie as tie
 
-add-result : tie.Need-add-result
-add-result c = omega arith
-
-shared-slice-read-result : tie.Need-shared-slice-read-result
-shared-slice-read-result c = omega arith
-
-add-result-2 : tie.Need-add-result-2
-add-result-2 c = omega arith
-
-shared-slice-read-result-2 : tie.Need-shared-slice-read-result-2
-shared-slice-read-result-2 c = omega arith
-
-shared-slice-read-result-3 : tie.Need-shared-slice-read-result-3
-shared-slice-read-result-3 c = omega arith
-
 mul-result : tie.Need-mul-result
 mul-result c = omega (arith, c .shared-slice-known3 .given (c .before .before .before .args .j))
 
@@ -35,11 +20,11 @@ pub scale-q4k-spec : {M : Type 1} → statement M
 scale-q4k-spec =
     tie.close
     (tie.spec
-    add-result
-    shared-slice-read-result
-    add-result-2
-    shared-slice-read-result-2
-    shared-slice-read-result-3
+    (λ c. omega arith)
+    (λ c. omega arith)
+    (λ c. omega arith)
+    (λ c. omega arith)
+    (λ c. omega arith)
     mul-result
     add-result-3
     returns

@@ -16,38 +16,8 @@ Inv-loop block d s₀ j₀ s j = Filling (dScale Q4K block) s₀ 8 s j
 abbrev μ-loop : tie.MeasureT-loop
 μ-loop block d s₀ j₀ s j = 8 - j
 
-shared-slice-read-le-u16 : tie.Need-shared-slice-read-le-u16 Inv-loop μ-loop
-shared-slice-read-le-u16 c = omega arith
-
-shared-slice-read-le-u16-2 : tie.Need-shared-slice-read-le-u16-2 Inv-loop μ-loop
-shared-slice-read-le-u16-2 c = omega arith
-
-le-u16-requires : tie.Need-le-u16-requires Inv-loop μ-loop
-le-u16-requires c κs = search needs
-
-f16-to-f32-requires : tie.Need-f16-to-f32-requires Inv-loop μ-loop
-f16-to-f32-requires c κs = search needs
-
 loop-holds : tie.Need-loop-holds Inv-loop μ-loop
 loop-holds c = filling-start (dScale Q4K (c .before .before .before .before .before .args .block .now)) _ 8 refl
-
-scale-q4k-requires : tie.Need-scale-q4k-requires Inv-loop μ-loop
-scale-q4k-requires c κs = search needs
-
-int-to-float-s : tie.Need-int-to-float-s Inv-loop μ-loop
-int-to-float-s c = search needs
-
-mul-s : tie.Need-mul-s Inv-loop μ-loop
-mul-s c = omega arith
-
-array-write-s : tie.Need-array-write-s Inv-loop μ-loop
-array-write-s c = omega arith
-
-add-j : tie.Need-add-j Inv-loop μ-loop
-add-j c = omega arith
-
-loop-less : tie.Need-loop-less Inv-loop μ-loop
-loop-less c = omega arith
 
 loop-again : tie.Need-loop-again Inv-loop μ-loop
 loop-again c =
@@ -68,16 +38,16 @@ scales-q4k-spec =
     (tie.spec
     Inv-loop
     μ-loop
-    shared-slice-read-le-u16
-    shared-slice-read-le-u16-2
-    le-u16-requires
-    f16-to-f32-requires
+    (λ c. omega arith)
+    (λ c. omega arith)
+    (λ c κs. search needs)
+    (λ c κs. search needs)
     loop-holds
-    scale-q4k-requires
-    int-to-float-s
-    mul-s
-    array-write-s
-    add-j
-    loop-less
+    (λ c κs. search needs)
+    (λ c. search needs)
+    (λ c. omega arith)
+    (λ c. omega arith)
+    (λ c. omega arith)
+    (λ c. omega arith)
     loop-again
     returns)

@@ -18,44 +18,8 @@ Inv-loop block d s₀ e₀ s e = Filling (dScale Q6K block) s₀ 16 s e
 abbrev μ-loop : tie.MeasureT-loop
 μ-loop block d s₀ e₀ s e = 16 - e
 
-shared-slice-read-le-u16 : tie.Need-shared-slice-read-le-u16 Inv-loop μ-loop
-shared-slice-read-le-u16 c = omega arith
-
-shared-slice-read-le-u16-2 : tie.Need-shared-slice-read-le-u16-2 Inv-loop μ-loop
-shared-slice-read-le-u16-2 c = omega arith
-
-le-u16-requires : tie.Need-le-u16-requires Inv-loop μ-loop
-le-u16-requires c κs = search needs
-
-f16-to-f32-requires : tie.Need-f16-to-f32-requires Inv-loop μ-loop
-f16-to-f32-requires c κs = search needs
-
 loop-holds : tie.Need-loop-holds Inv-loop μ-loop
 loop-holds c = filling-start (dScale Q6K (c .before .before .before .before .before .args .block .now)) _ 16 refl
-
-add-signed-byte : tie.Need-add-signed-byte Inv-loop μ-loop
-add-signed-byte c = omega arith
-
-shared-slice-read-signed-byte : tie.Need-shared-slice-read-signed-byte Inv-loop μ-loop
-shared-slice-read-signed-byte c = omega arith
-
-signed-byte-requires : tie.Need-signed-byte-requires Inv-loop μ-loop
-signed-byte-requires c κs = search needs
-
-int-to-float-s : tie.Need-int-to-float-s Inv-loop μ-loop
-int-to-float-s c = search needs
-
-mul-s : tie.Need-mul-s Inv-loop μ-loop
-mul-s c = omega arith
-
-array-write-s : tie.Need-array-write-s Inv-loop μ-loop
-array-write-s c = omega arith
-
-add-e : tie.Need-add-e Inv-loop μ-loop
-add-e c = omega arith
-
-loop-less : tie.Need-loop-less Inv-loop μ-loop
-loop-less c = omega arith
 
 loop-again : tie.Need-loop-again Inv-loop μ-loop
 unfolding scaleQ6K
@@ -78,18 +42,18 @@ scales-q6k-spec =
     (tie.spec
     Inv-loop
     μ-loop
-    shared-slice-read-le-u16
-    shared-slice-read-le-u16-2
-    le-u16-requires
-    f16-to-f32-requires
+    (λ c. omega arith)
+    (λ c. omega arith)
+    (λ c κs. search needs)
+    (λ c κs. search needs)
     loop-holds
-    add-signed-byte
-    shared-slice-read-signed-byte
-    signed-byte-requires
-    int-to-float-s
-    mul-s
-    array-write-s
-    add-e
-    loop-less
+    (λ c. omega arith)
+    (λ c. omega arith)
+    (λ c κs. search needs)
+    (λ c. search needs)
+    (λ c. omega arith)
+    (λ c. omega arith)
+    (λ c. omega arith)
+    (λ c. omega arith)
     loop-again
     returns)

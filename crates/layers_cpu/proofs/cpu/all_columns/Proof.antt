@@ -143,12 +143,6 @@ fill-column-requires c κs =
       (le-of-eq (sym (f .read)), ap length (row-is e) ∙ length-table _ _, le-of-eq (sym (l .inv .3 ∙ f .room))),
     )
 
-enum-told : tie.Need-enum-told Inv-loop μ-loop
-enum-told c = search needs
-
-enum-told-2 : tie.Need-enum-told-2 Inv-loop μ-loop
-enum-told-2 c = search needs
-
 same-length : tie.Need-same-length Inv-loop μ-loop
 same-length c = absurd (never-refused _ _ (c .before .before .before .before .fill-column .ensures .0) (c .enum-told2 .given .1))
 
@@ -222,8 +216,8 @@ all-columns-spec =
     slice-reshare-prefix-fill-column
     slice-aggregate-fill-column
     fill-column-requires
-    enum-told
-    enum-told-2
+    (λ c. search needs)
+    (λ c. search needs)
     same-length
     same-length-2
     returns-2

@@ -60,9 +60,6 @@ part-canonical-dot-pub-start c = omega (arith, facts c)
 part-canonical-dot-pub-end : tie.Need-part-canonical-dot-pub-end Inv-loop μ-loop
 part-canonical-dot-pub-end c = omega (arith, facts c)
 
-canonical-dot-pub-requires : tie.Need-canonical-dot-pub-requires Inv-loop μ-loop
-canonical-dot-pub-requires c κs = search needs
-
 -- what the dot of row b answers
 said : (c : tie.After-canonical-dot-pub Inv-loop μ-loop)
     → (let d = c .before .before in
@@ -81,15 +78,6 @@ said c =
     c .canonical-dot-pub .ensures
     ∙ dot-answers lent (a .row .now) n (t .pre .0 .1) (le-of-eq (sym long)) (le-of-eq (sym (t .pre .1 .1)))
     ∙ ap (λ (k : ℕ). value (rowSum (products (take k (drop from (a .x .now))) (a .row .now)) n)) width
-
-enum-known-answer : tie.Need-enum-known-answer Inv-loop μ-loop
-enum-known-answer c = search needs
-
-enum-told : tie.Need-enum-told Inv-loop μ-loop
-enum-told c = search needs
-
-passed-on-requires : tie.Need-passed-on-requires Inv-loop μ-loop
-passed-on-requires c κs = search needs
 
 same-length : tie.Need-same-length Inv-loop μ-loop
 same-length c = c .before .before .before .before .before .before .loop .inv .2
@@ -155,10 +143,10 @@ fill-column-spec =
     sub-canonical-dot-pub
     part-canonical-dot-pub-start
     part-canonical-dot-pub-end
-    canonical-dot-pub-requires
-    enum-known-answer
-    enum-told
-    passed-on-requires
+    (λ c κs. search needs)
+    (λ c. search needs)
+    (λ c. search needs)
+    (λ c κs. search needs)
     same-length
     returns
     mul-y

@@ -11,9 +11,6 @@ use Rattle.layers_cpu_checks.specs.Refusals.{cpuRefusal}
 use Rattle.layers_cpu_checks.proofs.checks.cpu_32_refusal.Statement.{statement}
 use Rattle.layers_cpu_checks.proofs.checks.cpu_32_refusal.Tie as tie
 
-is-oversize-requires : tie.Need-is-oversize-requires
-is-oversize-requires c κs = search needs
-
 -- past the first check no size is over its most
 sized : (c : tie.Else1) → InSizes (c .before .before .args .s)
 sized c = in-sizes (c .before .before .args .s) (sym (c .before .is-oversize .ensures) ∙ c .if1 .left)
@@ -27,9 +24,6 @@ unfolding cpuRefusal given
 returns-2 c =
     let a = c .before .before in
     simp (sym (a .before .is-oversize .ensures), a .if1 .left, ne-eqb _ _ (c .if2 .taken))
-
-block-bytes-requires : tie.Need-block-bytes-requires
-block-bytes-requires c κs = search needs
 
 -- a row's bytes are few
 row-small : (c : tie.After-block-bytes) → c .before .before .before .before .before .args .s .«in_feat» / 32 * c .block-bytes .result ≤ 139264
@@ -111,10 +105,10 @@ pub cpu-32-refusal-spec : {M : Type 1} → statement M
 cpu-32-refusal-spec =
     tie.close
     (tie.spec
-    is-oversize-requires
+    (λ c κs. search needs)
     returns
     returns-2
-    block-bytes-requires
+    (λ c κs. search needs)
     mul-if3
     mul-if3-2
     returns-3

@@ -11,9 +11,6 @@ use Rattle.layers_cpu_checks.specs.Refusals.{cpuRefusal}
 use Rattle.layers_cpu_checks.proofs.checks.cpu_k_refusal.Statement.{statement}
 use Rattle.layers_cpu_checks.proofs.checks.cpu_k_refusal.Tie as tie
 
-is-oversize-requires : tie.Need-is-oversize-requires
-is-oversize-requires c κs = search needs
-
 -- past the first check no size is over its most
 sized : (c : tie.Else1) → InSizes (c .before .before .args .s)
 sized c = in-sizes (c .before .before .args .s) (sym (c .before .is-oversize .ensures) ∙ c .if1 .left)
@@ -44,9 +41,6 @@ returns-3 c =
     let b = c .before .before in
     let a = b .before .before in
     simp (sym (a .before .is-oversize .ensures), a .if1 .left, eq-eqb _ _ (b .if2 .left), ne-eqb _ _ (c .if3 .taken))
-
-block-bytes-requires : tie.Need-block-bytes-requires
-block-bytes-requires c κs = search needs
 
 rem-if4 : tie.Need-rem-if4
 rem-if4 c = omega (arith, sizes (OfK (c .before .before .before .before .before .before .before .args .format)), c .block-bytes .ensures)
@@ -109,13 +103,13 @@ pub cpu-k-refusal-spec : {M : Type 1} → statement M
 cpu-k-refusal-spec =
     tie.close
     (tie.spec
-    is-oversize-requires
+    (λ c κs. search needs)
     returns
     mul-if2
     returns-2
     mul-if3
     returns-3
-    block-bytes-requires
+    (λ c κs. search needs)
     rem-if4
     returns-4
     div-if5

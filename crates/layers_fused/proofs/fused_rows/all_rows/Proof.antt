@@ -107,9 +107,6 @@ one-row-requires c κs =
 enum-told : tie.Need-enum-told Inv-loop μ-loop
 enum-told c = search needs
 
-enum-told-2 : tie.Need-enum-told-2 Inv-loop μ-loop
-enum-told-2 c = search needs
-
 same-length : tie.Need-same-length Inv-loop μ-loop
 same-length c = absurd (never-refused _ _ (c .before .before .before .before .one-row .ensures .0) (c .enum-told2 .given .1))
 
@@ -179,7 +176,7 @@ all-rows-spec =
     part-one-row-end-2
     one-row-requires
     enum-told
-    enum-told-2
+    (λ c. search needs)
     same-length
     returns
     add-b

@@ -5,9 +5,6 @@ use Rattle.layers_fused.specs.Says.{fusedLayerSays}
 use Rattle.layers_fused.proofs.fused_rows.fused_layer.Statement.{statement}
 use Rattle.layers_fused.proofs.fused_rows.fused_layer.Tie as tie
 
-layer-refusal-requires : tie.Need-layer-refusal-requires
-layer-refusal-requires c κs = search needs
-
 enum-known-refusal : tie.Need-enum-known-refusal
 enum-known-refusal c = search needs
 
@@ -31,7 +28,7 @@ pub fused-layer-spec : {M : Type 1} → statement M
 fused-layer-spec =
     tie.close
     (tie.spec
-    layer-refusal-requires
+    (λ c κs. search needs)
     enum-known-refusal
     returns
     enum-told

@@ -25,9 +25,6 @@ Inv-loop format x w y₀ n size o₀ o-end y o = Filling (fusedDotAt format x w 
 abbrev μ-loop : tie.MeasureT-loop
 μ-loop format x w y₀ n size o₀ o-end y o = length y₀ - o
 
-row-bytes-requires : tie.Need-row-bytes-requires Inv-loop μ-loop
-row-bytes-requires c κs = omega arith
-
 loop-holds : tie.Need-loop-holds Inv-loop μ-loop
 loop-holds c = filling-start _ _ _ refl
 
@@ -59,9 +56,6 @@ part-fused-dot-start c = omega (arith, facts c)
 part-fused-dot-end : tie.Need-part-fused-dot-end Inv-loop μ-loop
 part-fused-dot-end c = omega (arith, facts c)
 
-fused-dot-requires : tie.Need-fused-dot-requires Inv-loop μ-loop
-fused-dot-requires c κs = omega arith
-
 -- what the dot of row o answers
 said : (c : tie.After-fused-dot Inv-loop μ-loop)
     → (let d = c .before .before in
@@ -81,14 +75,8 @@ said c =
     ∙ fused-answers (a .format) (a .x .now) (take (from + size - from) (drop from (a .w .now))) n (t .pre .0) (le-refl n) (t .pre .1) long
     ∙ ap (λ (v : List ℕ). value (rowSum (terms (a .format) (a .x .now) v) n)) (lent-part (a .w .now) o size (rowBytes (a .format) n) (r .ensures))
 
-enum-known-answer : tie.Need-enum-known-answer Inv-loop μ-loop
-enum-known-answer c = search needs
-
 enum-told : tie.Need-enum-told Inv-loop μ-loop
 enum-told c = search needs
-
-passed-on-requires : tie.Need-passed-on-requires Inv-loop μ-loop
-passed-on-requires c κs = search needs
 
 same-length : tie.Need-same-length Inv-loop μ-loop
 same-length c = c .before .before .before .before .before .before .loop .inv .2
@@ -97,18 +85,6 @@ returns : tie.Need-returns Inv-loop μ-loop
 returns c =
     let m = c .before .before in
     absurd (no-refusal _ _ _ (said (m .before)) (c .before .enum-told .given .1))
-
-mul-y : tie.Need-mul-y Inv-loop μ-loop
-mul-y c = omega arith
-
-slice-write-y : tie.Need-slice-write-y Inv-loop μ-loop
-slice-write-y c = omega arith
-
-add-o : tie.Need-add-o Inv-loop μ-loop
-add-o c = omega arith
-
-loop-less : tie.Need-loop-less Inv-loop μ-loop
-loop-less c = omega arith
 
 loop-again : tie.Need-loop-again Inv-loop μ-loop
 loop-again c =
@@ -132,23 +108,23 @@ one-row-spec =
     (tie.spec
     Inv-loop
     μ-loop
-    row-bytes-requires
+    (λ c κs. omega arith)
     loop-holds
     mul-from
     add-to
     sub-fused-dot
     part-fused-dot-start
     part-fused-dot-end
-    fused-dot-requires
-    enum-known-answer
+    (λ c κs. omega arith)
+    (λ c. search needs)
     enum-told
-    passed-on-requires
+    (λ c κs. search needs)
     same-length
     returns
-    mul-y
-    slice-write-y
-    add-o
-    loop-less
+    (λ c. omega arith)
+    (λ c. omega arith)
+    (λ c. omega arith)
+    (λ c. omega arith)
     loop-again
     same-length-2
     returns-2)

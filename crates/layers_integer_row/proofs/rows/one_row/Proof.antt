@@ -23,9 +23,6 @@ Inv-loop format meeting w ds qs sums dots₀ y₀ size o₀ o-end dots y o = (le
 abbrev μ-loop : tie.MeasureT-loop
 μ-loop format meeting w ds qs sums dots₀ y₀ size o₀ o-end dots y o = length y₀ - o
 
-block-bytes-requires : tie.Need-block-bytes-requires Inv-loop μ-loop
-block-bytes-requires c κs = omega arith
-
 -- a row's bytes are few
 small : (c : tie.After-block-bytes Inv-loop μ-loop) → length (c .before .before .before .before .before .args .dots .now) * c .block-bytes .result ≤ 107520
 small c =
@@ -78,18 +75,6 @@ kept-row-dot-requires c κs =
     let bytes = ap (λ (n : ℕ). n * bytesK (s .args .format)) e ∙ ap (λ (z : ℕ). length (s .args .dots .now) * z) (sym (k .block-bytes .ensures)) in
     (le-trans (le-of-eq e) (s .pre .0), le-of-eq (bytes ∙ sym long), subst (λ (n : ℕ). KeptRow n (s .args .ds .now) (s .args .qs .now) (s .args .sums .now)) (sym e) (s .pre .3))
 
-mul-y : tie.Need-mul-y Inv-loop μ-loop
-mul-y c = omega arith
-
-slice-write-y : tie.Need-slice-write-y Inv-loop μ-loop
-slice-write-y c = omega arith
-
-add-o : tie.Need-add-o Inv-loop μ-loop
-add-o c = omega arith
-
-loop-less : tie.Need-loop-less Inv-loop μ-loop
-loop-less c = omega arith
-
 loop-again : tie.Need-loop-again Inv-loop μ-loop
 loop-again c =
     let q = c .before .before in
@@ -125,7 +110,7 @@ one-row-spec =
     (tie.spec
     Inv-loop
     μ-loop
-    block-bytes-requires
+    (λ c κs. omega arith)
     mul-size
     loop-holds
     mul-from
@@ -134,10 +119,10 @@ one-row-spec =
     part-kept-row-dot-start
     part-kept-row-dot-end
     kept-row-dot-requires
-    mul-y
-    slice-write-y
-    add-o
-    loop-less
+    (λ c. omega arith)
+    (λ c. omega arith)
+    (λ c. omega arith)
+    (λ c. omega arith)
     loop-again
     same-length
     same-length-2

@@ -12,15 +12,6 @@ use Rattle.dots_kept_row.proofs.Blocks.{room-new}
 use Rattle.layers_integer_row.proofs.rows.rows_of_512.Statement.{statement}
 use Rattle.layers_integer_row.proofs.rows.rows_of_512.Tie as tie
 
-slice-aggregate-all-rows : tie.Need-slice-aggregate-all-rows
-slice-aggregate-all-rows c = search needs
-
-slice-aggregate-all-rows-2 : tie.Need-slice-aggregate-all-rows-2
-slice-aggregate-all-rows-2 c = search needs
-
-slice-aggregate-all-rows-3 : tie.Need-slice-aggregate-all-rows-3
-slice-aggregate-all-rows-3 c = search needs
-
 -- a row's blocks are at most 512
 few : (c : tie.After-struct-known) → c .before .before .before .before .args .s .«in_feat» / 256 ≤ 512
 few c = let t = c .before .before .before .before in omega (arith, fits _ _ _ _ _ (t .pre) .within .in-in)
@@ -37,21 +28,15 @@ all-rows-requires c κs =
     let blocks = t .args .s .«in_feat» / 256 in
     (t .pre, length-take-le blocks (replicate 512 nought) (rw length-replicate (few (c .before .before .before .before .before))), room-new blocks 512 nought (pos 0) (pos 0) (few (c .before .before .before .before .before)))
 
-same-length : tie.Need-same-length
-same-length c = search needs
-
-returns : tie.Need-returns
-returns c = search needs
-
 pub rows-of-512-spec : {M : Type 1} → statement M
 rows-of-512-spec =
     tie.close
     (tie.spec
-    slice-aggregate-all-rows
-    slice-aggregate-all-rows-2
-    slice-aggregate-all-rows-3
+    (λ c. search needs)
+    (λ c. search needs)
+    (λ c. search needs)
     array-borrow-prefix-dots
     slice-aggregate-all-rows-4
     all-rows-requires
-    same-length
-    returns)
+    (λ c. search needs)
+    (λ c. search needs))

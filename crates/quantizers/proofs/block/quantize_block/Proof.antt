@@ -59,12 +59,6 @@ slice-write-out-2 c = rw length-set (omega (arith, start c .pre .1, least-32 (fo
 enum-told : tie.Need-enum-told
 enum-told c = search needs
 
-sub-write-quants-q4-0 : tie.Need-sub-write-quants-q4-0
-sub-write-quants-q4-0 c = omega arith
-
-part-write-quants-q4-0-start : tie.Need-part-write-quants-q4-0-start
-part-write-quants-q4-0-start c = omega arith
-
 part-write-quants-q4-0-end : tie.Need-part-write-quants-q4-0-end
 part-write-quants-q4-0-end c = simp length-set (omega (arith, start (c .before .before) .pre .1 ∙ ap (λ (v : Target). bytes32 (formatOf v)) (c .enum-told .given .1)))
 
@@ -73,15 +67,6 @@ write-quants-q4-0-requires c κs =
     let m = c .before .before .before in
     let size : length (start m .args .out .now) ≡ 18 = start m .pre .1 ∙ ap (λ (v : Target). bytes32 (formatOf v)) (c .before .enum-told .given .1) in
     (start m .pre .0, part-length (scaled m) 2 16 18 refl (simp length-set (omega arith)))
-
-enum-told-2 : tie.Need-enum-told-2
-enum-told-2 c = search needs
-
-sub-write-quants-q8-0 : tie.Need-sub-write-quants-q8-0
-sub-write-quants-q8-0 c = omega arith
-
-part-write-quants-q8-0-start : tie.Need-part-write-quants-q8-0-start
-part-write-quants-q8-0-start c = omega arith
 
 part-write-quants-q8-0-end : tie.Need-part-write-quants-q8-0-end
 part-write-quants-q8-0-end c = simp length-set (omega (arith, start (c .before .before) .pre .1 ∙ ap (λ (v : Target). bytes32 (formatOf v)) (c .enum-told2 .given .1)))
@@ -116,13 +101,13 @@ quantize-block-spec =
     cast-out-2
     slice-write-out-2
     enum-told
-    sub-write-quants-q4-0
-    part-write-quants-q4-0-start
+    (λ c. omega arith)
+    (λ c. omega arith)
     part-write-quants-q4-0-end
     write-quants-q4-0-requires
-    enum-told-2
-    sub-write-quants-q8-0
-    part-write-quants-q8-0-start
+    (λ c. search needs)
+    (λ c. omega arith)
+    (λ c. omega arith)
     part-write-quants-q8-0-end
     write-quants-q8-0-requires
     same-length

@@ -8,15 +8,6 @@ use Rattle.quantizers.proofs.block.scale_of.Tie as tie
 enum-told : tie.Need-enum-told
 enum-told c = search needs
 
-largest-value-requires : tie.Need-largest-value-requires
-largest-value-requires c κs = search needs
-
-enum-told-2 : tie.Need-enum-told-2
-enum-told-2 c = search needs
-
-scale-q8-requires : tie.Need-scale-q8-requires
-scale-q8-requires c κs = search needs
-
 returns : tie.Need-returns
 unfolding scaleOf neg ofBits
 returns c = rw (c .largest-value .ensures, c .before .before .before .before .pre, c .before .enum-told .given .1)
@@ -30,8 +21,8 @@ scale-of-spec =
     tie.close
     (tie.spec
     enum-told
-    largest-value-requires
-    enum-told-2
-    scale-q8-requires
+    (λ c κs. search needs)
+    (λ c. search needs)
+    (λ c κs. search needs)
     returns
     returns-2)

@@ -6,12 +6,6 @@ use Rattle.quantizers.specs.Blocks.{storedScale}
 use Rattle.quantizers.proofs.block.stored_scale.Statement.{statement}
 use Rattle.quantizers.proofs.block.stored_scale.Tie as tie
 
-bits-of-requires : tie.Need-bits-of-requires
-bits-of-requires c κs = search needs
-
-f32-to-f16-requires : tie.Need-f32-to-f16-requires
-f32-to-f16-requires c κs = search needs
-
 returns : tie.Need-returns
 unfolding storedScale
 returns c = c .f32-to-f16 .ensures ∙ ap narrowed (c .before .bits-of .ensures)
@@ -20,6 +14,6 @@ pub stored-scale-spec : {M : Type 1} → statement M
 stored-scale-spec =
     tie.close
     (tie.spec
-    bits-of-requires
-    f32-to-f16-requires
+    (λ c κs. search needs)
+    (λ c κs. search needs)
     returns)

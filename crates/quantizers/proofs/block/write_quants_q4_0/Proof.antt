@@ -19,47 +19,11 @@ abbrev μ-loop : tie.MeasureT-loop
 loop-holds : tie.Need-loop-holds Inv-loop μ-loop
 loop-holds c = filling-start (written Q40 (c .before .before .args .x .now) (c .before .before .args .inverse)) (c .before .before .args .out .now) 16 (c .before .before .pre .1)
 
-mul-round-q4-0 : tie.Need-mul-round-q4-0 Inv-loop μ-loop
-mul-round-q4-0 c = omega arith
-
-mul-round-q4-0-2 : tie.Need-mul-round-q4-0-2 Inv-loop μ-loop
-mul-round-q4-0-2 c = omega arith
-
-shared-slice-read-round-q4-0 : tie.Need-shared-slice-read-round-q4-0 Inv-loop μ-loop
-shared-slice-read-round-q4-0 c = omega arith
-
-round-q4-0-requires : tie.Need-round-q4-0-requires Inv-loop μ-loop
-round-q4-0-requires c κs = search needs
-
-mul-round-q4-0-3 : tie.Need-mul-round-q4-0-3 Inv-loop μ-loop
-mul-round-q4-0-3 c = omega arith
-
-add-round-q4-0 : tie.Need-add-round-q4-0 Inv-loop μ-loop
-add-round-q4-0 c = omega arith
-
-mul-round-q4-0-4 : tie.Need-mul-round-q4-0-4 Inv-loop μ-loop
-mul-round-q4-0-4 c = omega arith
-
-shared-slice-read-round-q4-0-2 : tie.Need-shared-slice-read-round-q4-0-2 Inv-loop μ-loop
-shared-slice-read-round-q4-0-2 c = omega arith
-
-round-q4-0-requires-2 : tie.Need-round-q4-0-requires-2 Inv-loop μ-loop
-round-q4-0-requires-2 c κs = search needs
-
 mul-out : tie.Need-mul-out Inv-loop μ-loop
 mul-out c = omega (arith, q40-nibble _ _ (c .round-q4-02 .ensures))
 
 add-out : tie.Need-add-out Inv-loop μ-loop
 add-out c = omega (arith, q40-nibble _ _ (c .round-q4-02 .ensures), q40-nibble _ _ (c .before .before .round-q4-0 .ensures))
-
-slice-write-out : tie.Need-slice-write-out Inv-loop μ-loop
-slice-write-out c = omega arith
-
-add-k : tie.Need-add-k Inv-loop μ-loop
-add-k c = omega arith
-
-loop-less : tie.Need-loop-less Inv-loop μ-loop
-loop-less c = omega arith
 
 loop-again : tie.Need-loop-again Inv-loop μ-loop
 loop-again c =
@@ -84,20 +48,20 @@ write-quants-q4-0-spec =
     Inv-loop
     μ-loop
     loop-holds
-    mul-round-q4-0
-    mul-round-q4-0-2
-    shared-slice-read-round-q4-0
-    round-q4-0-requires
-    mul-round-q4-0-3
-    add-round-q4-0
-    mul-round-q4-0-4
-    shared-slice-read-round-q4-0-2
-    round-q4-0-requires-2
+    (λ c. omega arith)
+    (λ c. omega arith)
+    (λ c. omega arith)
+    (λ c κs. search needs)
+    (λ c. omega arith)
+    (λ c. omega arith)
+    (λ c. omega arith)
+    (λ c. omega arith)
+    (λ c κs. search needs)
     mul-out
     add-out
-    slice-write-out
-    add-k
-    loop-less
+    (λ c. omega arith)
+    (λ c. omega arith)
+    (λ c. omega arith)
     loop-again
     same-length
     returns)

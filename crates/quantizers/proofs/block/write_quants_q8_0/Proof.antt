@@ -21,27 +21,6 @@ abbrev μ-loop : tie.MeasureT-loop
 loop-holds : tie.Need-loop-holds Inv-loop μ-loop
 loop-holds c = filling-start (written Q80 (c .before .before .args .x .now) (c .before .before .args .inverse)) (c .before .before .args .out .now) 32 (c .before .before .pre .1)
 
-mul-round-q8 : tie.Need-mul-round-q8 Inv-loop μ-loop
-mul-round-q8 c = omega arith
-
-shared-slice-read-round-q8 : tie.Need-shared-slice-read-round-q8 Inv-loop μ-loop
-shared-slice-read-round-q8 c = omega arith
-
-round-q8-requires : tie.Need-round-q8-requires Inv-loop μ-loop
-round-q8-requires c κs = search needs
-
-unsigned-byte-requires : tie.Need-unsigned-byte-requires Inv-loop μ-loop
-unsigned-byte-requires c κs = search needs
-
-slice-write-out : tie.Need-slice-write-out Inv-loop μ-loop
-slice-write-out c = omega arith
-
-add-k : tie.Need-add-k Inv-loop μ-loop
-add-k c = omega arith
-
-loop-less : tie.Need-loop-less Inv-loop μ-loop
-loop-less c = omega arith
-
 loop-again : tie.Need-loop-again Inv-loop μ-loop
 loop-again c =
     let l = c .before .before .before .before .loop in
@@ -65,13 +44,13 @@ write-quants-q8-0-spec =
     Inv-loop
     μ-loop
     loop-holds
-    mul-round-q8
-    shared-slice-read-round-q8
-    round-q8-requires
-    unsigned-byte-requires
-    slice-write-out
-    add-k
-    loop-less
+    (λ c. omega arith)
+    (λ c. omega arith)
+    (λ c κs. search needs)
+    (λ c κs. search needs)
+    (λ c. omega arith)
+    (λ c. omega arith)
+    (λ c. omega arith)
     loop-again
     same-length
     returns)

@@ -15,9 +15,6 @@ room-for-bytes : (t : Target) (n room : ℕ) → quantizeRefusal t n room ≡ do
 unfolding quantizeRefusal
 room-for-bytes t n room e = ltb-false _ _ (given-passed _ _ _ _ (given-passed _ _ _ _ (given-passed _ _ _ _ e .1) .1) .0)
 
-quantize-refusal-requires : tie.Need-quantize-refusal-requires
-quantize-refusal-requires c κs = search needs
-
 enum-known-checked : tie.Need-enum-known-checked
 enum-known-checked c = search needs
 
@@ -44,7 +41,7 @@ pub quantize-spec : {M : Type 1} → statement M
 quantize-spec =
     tie.close
     (tie.spec
-    quantize-refusal-requires
+    (λ c κs. search needs)
     enum-known-checked
     returns
     enum-told

@@ -22,12 +22,6 @@ Inv-loop target x out₀ size count b₀ out b = InParts (packedAt target x) out
 abbrev μ-loop : tie.MeasureT-loop
 μ-loop target x out₀ size count b₀ out b = count - b
 
-format-of-requires : tie.Need-format-of-requires Inv-loop μ-loop
-format-of-requires c κs = search needs
-
-block-bytes-requires : tie.Need-block-bytes-requires Inv-loop μ-loop
-block-bytes-requires c κs = search needs
-
 -- the size is that of the target's format
 size-is : (c : tie.After-block-bytes Inv-loop μ-loop) → c .block-bytes .result ≡ bytes32 (formatOf (c .before .before .before .before .args .target))
 size-is c = c .block-bytes .ensures ∙ ap bytes32 (c .before .format-of .ensures)
@@ -129,8 +123,8 @@ quantize-blocks-spec =
     (tie.spec
     Inv-loop
     μ-loop
-    format-of-requires
-    block-bytes-requires
+    (λ c κs. search needs)
+    (λ c κs. search needs)
     loop-holds
     mul-from
     add-to

@@ -20,12 +20,6 @@ returns-2 : tie.Need-returns-2
 unfolding quantizeRefusal given
 returns-2 c = simp (le-ltb _ _ (c .before .if1 .left), ne-eqb _ _ (c .if2 .taken))
 
-format-of-requires : tie.Need-format-of-requires
-format-of-requires c κs = search needs
-
-block-bytes-requires : tie.Need-block-bytes-requires
-block-bytes-requires c κs = search needs
-
 -- the size is that of the target's format
 size-is : (c : tie.After-block-bytes) → c .block-bytes .result ≡ bytes32 (formatOf (c .before .before .before .before .args .target))
 size-is c = c .block-bytes .ensures ∙ ap bytes32 (c .before .format-of .ensures)
@@ -49,8 +43,8 @@ quantize-refusal-spec =
     (tie.spec
     returns
     returns-2
-    format-of-requires
-    block-bytes-requires
+    (λ c κs. search needs)
+    (λ c κs. search needs)
     mul-if3
     returns-3
     returns-4)

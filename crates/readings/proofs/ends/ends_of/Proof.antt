@@ -22,59 +22,17 @@ Inv-loop x whole high₀ low₀ i₀ high low i = (i ≤ whole) × (i % 8 ≡ 0)
 abbrev μ-loop : tie.MeasureT-loop
 μ-loop x whole high₀ low₀ i₀ high low i = whole - i
 
-mul-whole : tie.Need-mul-whole Inv-loop2 μ-loop2 Inv-loop μ-loop
-mul-whole c = omega arith
-
 loop-holds : tie.Need-loop-holds Inv-loop2 μ-loop2 Inv-loop μ-loop
 loop-holds c = let x = now (c .before .args .x) in (omega arith, refl, lanes-none false x, lanes-none true x)
 
 loop2-holds : tie.Need-loop2-holds Inv-loop2 μ-loop2 Inv-loop μ-loop
 loop2-holds c = let l = c .before .loop in (omega arith, rw add-zero (l .inv .2), rw add-zero (l .inv .3))
 
-add-v : tie.Need-add-v Inv-loop2 μ-loop2 Inv-loop μ-loop
-add-v c = omega arith
-
-mul-v : tie.Need-mul-v Inv-loop2 μ-loop2 Inv-loop μ-loop
-mul-v c = omega arith
-
-shared-slice-read-v : tie.Need-shared-slice-read-v Inv-loop2 μ-loop2 Inv-loop μ-loop
-shared-slice-read-v c = omega arith
-
-mul-larger-of : tie.Need-mul-larger-of Inv-loop2 μ-loop2 Inv-loop μ-loop
-mul-larger-of c = omega arith
-
-array-read-larger-of : tie.Need-array-read-larger-of Inv-loop2 μ-loop2 Inv-loop μ-loop
-array-read-larger-of c = omega arith
-
 larger-of-requires : tie.Need-larger-of-requires Inv-loop2 μ-loop2 Inv-loop μ-loop
 larger-of-requires c κs = tt
 
-mul-high : tie.Need-mul-high Inv-loop2 μ-loop2 Inv-loop μ-loop
-mul-high c = omega arith
-
-array-write-high : tie.Need-array-write-high Inv-loop2 μ-loop2 Inv-loop μ-loop
-array-write-high c = omega arith
-
-mul-smaller-of : tie.Need-mul-smaller-of Inv-loop2 μ-loop2 Inv-loop μ-loop
-mul-smaller-of c = omega arith
-
-array-read-smaller-of : tie.Need-array-read-smaller-of Inv-loop2 μ-loop2 Inv-loop μ-loop
-array-read-smaller-of c = omega arith
-
 smaller-of-requires : tie.Need-smaller-of-requires Inv-loop2 μ-loop2 Inv-loop μ-loop
 smaller-of-requires c κs = tt
-
-mul-low : tie.Need-mul-low Inv-loop2 μ-loop2 Inv-loop μ-loop
-mul-low c = omega arith
-
-array-write-low : tie.Need-array-write-low Inv-loop2 μ-loop2 Inv-loop μ-loop
-array-write-low c = omega arith
-
-add-j : tie.Need-add-j Inv-loop2 μ-loop2 Inv-loop μ-loop
-add-j c = omega arith
-
-loop2-less : tie.Need-loop2-less Inv-loop2 μ-loop2 Inv-loop μ-loop
-loop2-less c = omega arith
 
 loop2-again : tie.Need-loop2-again Inv-loop2 μ-loop2 Inv-loop μ-loop
 loop2-again c =
@@ -89,12 +47,6 @@ loop2-again c =
       rw (← add-assoc i j 1, c .smaller-of .ensures) (lanes-more true x (head .loop2 .low) (i + j) j lane held (head .loop2 .inv .2)),
     )
 
-add-i : tie.Need-add-i Inv-loop2 μ-loop2 Inv-loop μ-loop
-add-i c = omega arith
-
-loop-less : tie.Need-loop-less Inv-loop2 μ-loop2 Inv-loop μ-loop
-loop-less c = omega arith
-
 loop-again : tie.Need-loop-again Inv-loop2 μ-loop2 Inv-loop μ-loop
 loop-again c =
     let inner = c .before .loop2 in
@@ -106,18 +58,6 @@ high-of-8-requires c κs = tt
 
 low-of-8-requires : tie.Need-low-of-8-requires Inv-loop2 μ-loop2 Inv-loop μ-loop
 low-of-8-requires c κs = tt
-
-mul-ends-with : tie.Need-mul-ends-with Inv-loop2 μ-loop2 Inv-loop μ-loop
-mul-ends-with c = omega arith
-
-sub-ends-with : tie.Need-sub-ends-with Inv-loop2 μ-loop2 Inv-loop μ-loop
-sub-ends-with c = omega arith
-
-part-ends-with-start : tie.Need-part-ends-with-start Inv-loop2 μ-loop2 Inv-loop μ-loop
-part-ends-with-start c = omega arith
-
-part-ends-with-end : tie.Need-part-ends-with-end Inv-loop2 μ-loop2 Inv-loop μ-loop
-part-ends-with-end c = omega arith
 
 ends-with-requires : tie.Need-ends-with-requires Inv-loop2 μ-loop2 Inv-loop μ-loop
 ends-with-requires c κs = tt
@@ -142,33 +82,33 @@ ends-of-spec =
     μ-loop2
     Inv-loop
     μ-loop
-    mul-whole
+    (λ c. omega arith)
     loop-holds
     loop2-holds
-    add-v
-    mul-v
-    shared-slice-read-v
-    mul-larger-of
-    array-read-larger-of
+    (λ c. omega arith)
+    (λ c. omega arith)
+    (λ c. omega arith)
+    (λ c. omega arith)
+    (λ c. omega arith)
     larger-of-requires
-    mul-high
-    array-write-high
-    mul-smaller-of
-    array-read-smaller-of
+    (λ c. omega arith)
+    (λ c. omega arith)
+    (λ c. omega arith)
+    (λ c. omega arith)
     smaller-of-requires
-    mul-low
-    array-write-low
-    add-j
-    loop2-less
+    (λ c. omega arith)
+    (λ c. omega arith)
+    (λ c. omega arith)
+    (λ c. omega arith)
     loop2-again
-    add-i
-    loop-less
+    (λ c. omega arith)
+    (λ c. omega arith)
     loop-again
     high-of-8-requires
     low-of-8-requires
-    mul-ends-with
-    sub-ends-with
-    part-ends-with-start
-    part-ends-with-end
+    (λ c. omega arith)
+    (λ c. omega arith)
+    (λ c. omega arith)
+    (λ c. omega arith)
     ends-with-requires
     returns)

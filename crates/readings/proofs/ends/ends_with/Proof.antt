@@ -26,23 +26,11 @@ loop-holds : tie.Need-loop-holds Inv-loop μ-loop
 unfolding furthest
 loop-holds c = (omega arith, refl, refl, refl)
 
-mul-v : tie.Need-mul-v Inv-loop μ-loop
-mul-v c = omega arith
-
-shared-slice-read-v : tie.Need-shared-slice-read-v Inv-loop μ-loop
-shared-slice-read-v c = omega arith
-
 larger-of-requires : tie.Need-larger-of-requires Inv-loop μ-loop
 larger-of-requires c κs = tt
 
 smaller-of-requires : tie.Need-smaller-of-requires Inv-loop μ-loop
 smaller-of-requires c κs = tt
-
-add-i : tie.Need-add-i Inv-loop μ-loop
-add-i c = omega arith
-
-loop-less : tie.Need-loop-less Inv-loop μ-loop
-loop-less c = omega arith
 
 loop-again : tie.Need-loop-again Inv-loop μ-loop
 loop-again c =
@@ -67,11 +55,11 @@ ends-with-spec =
     Inv-loop
     μ-loop
     loop-holds
-    mul-v
-    shared-slice-read-v
+    (λ c. omega arith)
+    (λ c. omega arith)
     larger-of-requires
     smaller-of-requires
-    add-i
-    loop-less
+    (λ c. omega arith)
+    (λ c. omega arith)
     loop-again
     returns)

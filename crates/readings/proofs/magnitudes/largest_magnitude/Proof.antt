@@ -6,16 +6,10 @@ use Rattle.readings.proofs.TwoEnds.{larger-end}
 use Rattle.readings.proofs.magnitudes.largest_magnitude.Statement.{statement}
 use Rattle.readings.proofs.magnitudes.largest_magnitude.Tie as tie
 
-ends-of-requires : tie.Need-ends-of-requires
-ends-of-requires c κs = search needs
-
-larger-of-requires : tie.Need-larger-of-requires
-larger-of-requires c κs = search needs
-
 returns : tie.Need-returns
 returns c =
     let e = c .before .before in
     c .larger-of .ensures ∙ rw (e .ends-of .ensures .0, e .ends-of .ensures .1) (larger-end (now (e .before .before .args .x)) (e .before .shared-slice-known .given))
 
 pub largest-magnitude-spec : {M : Type 1} → statement M
-largest-magnitude-spec = tie.close (tie.spec ends-of-requires larger-of-requires returns)
+largest-magnitude-spec = tie.close (tie.spec (λ c κs. search needs) (λ c κs. search needs) returns)

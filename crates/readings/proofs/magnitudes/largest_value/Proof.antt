@@ -15,9 +15,6 @@ use Rattle.readings.proofs.TwoEnds.{far, other-further, above-zero, fur
 use Rattle.readings.proofs.magnitudes.largest_value.Statement.{statement}
 use Rattle.readings.proofs.magnitudes.largest_value.Tie as tie
 
-ends-of-requires : tie.Need-ends-of-requires
-ends-of-requires c κs = search needs
-
 module _ (c : tie.After-ends-of) where
   abbrev xs : List Float
   xs = now (c .before .before .args .x)
@@ -63,4 +60,4 @@ returns-4 c =
 
 pub largest-value-spec : {M : Type 1} → statement M
 largest-value-spec =
-    tie.close (tie.spec ends-of-requires returns returns-2 first-of-requires returns-3 returns-4)
+    tie.close (tie.spec (λ c κs. search needs) returns returns-2 first-of-requires returns-3 returns-4)

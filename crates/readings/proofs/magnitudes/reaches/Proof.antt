@@ -3,9 +3,6 @@ use borrow.Author.Needs.{needs}
 use Rattle.readings.proofs.magnitudes.reaches.Statement.{statement}
 use Rattle.readings.proofs.magnitudes.reaches.Tie as tie
 
-magnitude-of-requires : tie.Need-magnitude-of-requires
-magnitude-of-requires c κs = search needs
-
 returns : tie.Need-returns
 returns c = rw (← c .before .magnitude-of .ensures, c .if1 .taken)
 
@@ -16,6 +13,6 @@ pub reaches-spec : {M : Type 1} → statement M
 reaches-spec =
     tie.close
     (tie.spec
-    magnitude-of-requires
+    (λ c κs. search needs)
     returns
     returns-2)

@@ -4,12 +4,9 @@ use borrow.Author.Needs.{needs}
 use Rattle.readings.proofs.magnitudes.scale_q8.Statement.{statement}
 use Rattle.readings.proofs.magnitudes.scale_q8.Tie as tie
 
-largest-magnitude-requires : tie.Need-largest-magnitude-requires
-largest-magnitude-requires c κs = search needs
-
 returns : tie.Need-returns
 unfolding ofBits
 returns c = rw (c .largest-magnitude .ensures)
 
 pub scale-q8-spec : {M : Type 1} → statement M
-scale-q8-spec = tie.close (tie.spec largest-magnitude-requires returns)
+scale-q8-spec = tie.close (tie.spec (λ c κs. search needs) returns)

@@ -15,15 +15,6 @@ use Rattle.readings.proofs.Held.{Held, held-is}
 use Rattle.readings.proofs.quants.held_whole.Statement.{statement}
 use Rattle.readings.proofs.quants.held_whole.Tie as tie
 
-int-to-float-smaller-of : tie.Need-int-to-float-smaller-of
-int-to-float-smaller-of c = search needs
-
-larger-of-requires : tie.Need-larger-of-requires
-larger-of-requires c κs = search needs
-
-smaller-of-requires : tie.Need-smaller-of-requires
-smaller-of-requires c κs = search needs
-
 -- a small whole number as a float
 number : (n : ℕ) → n < 256 → Fraction (ofInt binary32 (pos n)) n 1
 unfolding ofInt
@@ -45,4 +36,4 @@ returns c = read-is w32 _ (c .small-whole .ok) ∙ c .small-whole .ensures ∙ w
 pub held-whole-spec : {M : Type 1} → statement M
 held-whole-spec =
     tie.close
-    (tie.spec int-to-float-smaller-of larger-of-requires smaller-of-requires small-whole-requires returns)
+    (tie.spec (λ c. search needs) (λ c κs. search needs) (λ c κs. search needs) small-whole-requires returns)

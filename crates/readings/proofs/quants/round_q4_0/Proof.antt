@@ -12,9 +12,6 @@ use Rattle.readings.proofs.Held.{UpTo, held-up-to}
 use Rattle.readings.proofs.quants.round_q4_0.Statement.{statement}
 use Rattle.readings.proofs.quants.round_q4_0.Tie as tie
 
-held-whole-requires : tie.Need-held-whole-requires
-held-whole-requires c κs = search needs
-
 quant : (c : tie.After-held-whole) → UpTo 15 (quantQ40 (c .before .args .p))
 unfolding quantQ40
 quant c = held-up-to 15 (truncated (add binary32 (c .before .args .p) (ofBits binary32 0x4108_0000)))
@@ -31,4 +28,4 @@ returns : tie.Need-returns
 returns c = let q = quant c in rw (whole c, q .is)
 
 pub round-q4-0-spec : {M : Type 1} → statement M
-round-q4-0-spec = tie.close (tie.spec held-whole-requires cast-result returns)
+round-q4-0-spec = tie.close (tie.spec (λ c κs. search needs) cast-result returns)

@@ -20,12 +20,6 @@ use Rattle.readings.proofs.BothSides.{half, not-below, below}
 use Rattle.readings.proofs.quants.round_q8.Statement.{statement}
 use Rattle.readings.proofs.quants.round_q8.Tie as tie
 
-magnitude-of-requires : tie.Need-magnitude-of-requires
-magnitude-of-requires c κs = search needs
-
-held-whole-requires : tie.Need-held-whole-requires
-held-whole-requires c κs = search needs
-
 -- the rule of a magnitude
 abbrev ruled : Float → ℤ
 ruled x = held (pos 0) (pos 127) (truncated (add binary32 x half))
@@ -102,4 +96,4 @@ returns c = rw (met c .is) (read-is w8 _ (met c .byte))
 
 pub round-q8-spec : {M : Type 1} → statement M
 round-q8-spec =
-    tie.close (tie.spec magnitude-of-requires held-whole-requires sub-signed cast-result returns)
+    tie.close (tie.spec (λ c κs. search needs) (λ c κs. search needs) sub-signed cast-result returns)

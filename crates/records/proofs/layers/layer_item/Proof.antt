@@ -27,19 +27,7 @@ returns : tie.Need-returns
 unfolding layerFound
 returns c = sym (given-yes _ _ _ (lt-ltb _ _ (c .if1 .taken)))
 
-shared-slice-read-format : tie.Need-shared-slice-read-format
-shared-slice-read-format c = search needs
-
 -- ---- the format
-
-format-named-requires : tie.Need-format-named-requires
-format-named-requires c κs = search needs
-
-enum-known-known : tie.Need-enum-known-known
-enum-known-known c = search needs
-
-enum-told : tie.Need-enum-told
-enum-told c = search needs
 
 -- the head passed: what is left goes by what the format byte names
 to-format : (n : Named) (c : tie.After-format-named) → c .format-named .result ≡ n → (let p = now (c .before .before .before .before .args .p) in layerFound p ≡ formatFound n p)
@@ -52,21 +40,6 @@ returns-2 : tie.Need-returns-2
 returns-2 c = sym (to-format _ (c .before .before) (c .enum-told .given .1))
 
 -- ---- the sizes
-
-u32-at-requires : tie.Need-u32-at-requires
-u32-at-requires c κs = search needs
-
-u32-at-requires-2 : tie.Need-u32-at-requires-2
-u32-at-requires-2 c κs = search needs
-
-sizes-refusal-requires : tie.Need-sizes-refusal-requires
-sizes-refusal-requires c κs = search needs
-
-enum-known-refusal : tie.Need-enum-known-refusal
-enum-known-refusal c = search needs
-
-enum-told-2 : tie.Need-enum-told-2
-enum-told-2 c = search needs
 
 -- the sizes that the code read are those of the payload
 same-sizes : (n m inFeat outFeat : ℕ) → n ≡ inFeat → m ≡ outFeat → sizesRefusal n m ≡ sizesRefusal inFeat outFeat
@@ -82,9 +55,6 @@ returns-3 c =
     sym (to-format _ (k .before .before) (k .known .given .1) ∙ else-first _ _ _ (sym (sizes z) ∙ ap checkSays (c .before .refusal .given .1)))
 
 -- ---- the weights
-
-sub-if2 : tie.Need-sub-if2
-sub-if2 c = search needs
 
 weight-bytes-requires : tie.Need-weight-bytes-requires
 weight-bytes-requires c κs =
@@ -137,5 +107,5 @@ returns-5 c =
 pub layer-item-spec : {M : Type 1} → statement M
 layer-item-spec =
     tie.close
-    (tie.spec returns shared-slice-read-format format-named-requires enum-known-known enum-told returns-2 u32-at-requires u32-at-requires-2 sizes-refusal-requires enum-known-refusal returns-3 enum-told-2 sub-if2
+    (tie.spec returns (λ c. search needs) (λ c κs. search needs) (λ c. search needs) (λ c. search needs) returns-2 (λ c κs. search needs) (λ c κs. search needs) (λ c κs. search needs) (λ c. search needs) returns-3 (λ c. search needs) (λ c. search needs)
     weight-bytes-requires returns-4 returns-5)

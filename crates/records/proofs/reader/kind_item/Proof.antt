@@ -24,12 +24,6 @@ module _ (kind : ℕ) (p : List ℕ) (latest : ℕ) where
   unfolding kindFound given
   unknown h k = simp (ne-eqb _ _ h, ne-eqb _ _ k)
 
-layer-item-requires : tie.Need-layer-item-requires
-layer-item-requires c κs = search needs
-
-window-item-requires : tie.Need-window-item-requires
-window-item-requires c κs = search needs
-
 returns : tie.Need-returns
 returns c = c .layer-item .ensures ∙ a-layer _ _ _ (c .before .match .keys1)
 
@@ -40,4 +34,4 @@ returns-3 : tie.Need-returns-3
 returns-3 c = unknown _ _ _ (c .match .rest .0 .1) (c .match .rest .1)
 
 pub kind-item-spec : {M : Type 1} → statement M
-kind-item-spec = tie.close (tie.spec layer-item-requires window-item-requires returns returns-2 returns-3)
+kind-item-spec = tie.close (tie.spec (λ c κs. search needs) (λ c κs. search needs) returns returns-2 returns-3)

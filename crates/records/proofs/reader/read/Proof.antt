@@ -12,24 +12,6 @@ use Rattle.records.specs.Kinds.{kindFound, found}
 use Rattle.records.proofs.reader.read.Statement.{statement}
 use Rattle.records.proofs.reader.read.Tie as tie
 
-frame-of-requires : tie.Need-frame-of-requires
-frame-of-requires c κs = search needs
-
-enum-told : tie.Need-enum-told
-enum-told c = search needs
-
-enum-told-2 : tie.Need-enum-told-2
-enum-told-2 c = search needs
-
-enum-known-kind : tie.Need-enum-known-kind
-enum-known-kind c = search needs
-
-payload-requires : tie.Need-payload-requires
-payload-requires c κs = search needs
-
-kind-item-requires : tie.Need-kind-item-requires
-kind-item-requires c κs = search needs
-
 -- what is found of a frame, by the code's word for it
 module _ (latest : ℕ) where
   at-end : (f : Frame) → frontOf f ≡ Ended → value nothing ≡ found f latest
@@ -67,4 +49,4 @@ returns-3 c =
 pub read-spec : {M : Type 1} → statement M
 read-spec =
     tie.close
-    (tie.spec frame-of-requires enum-told enum-told-2 enum-known-kind payload-requires kind-item-requires returns returns-2 returns-3)
+    (tie.spec (λ c κs. search needs) (λ c. search needs) (λ c. search needs) (λ c. search needs) (λ c κs. search needs) (λ c κs. search needs) returns returns-2 returns-3)

@@ -19,23 +19,11 @@ loop-holds : tie.Need-loop-holds Inv-loop μ-loop
 unfolding hasZero
 loop-holds c = (omega arith, refl)
 
-mul-bits-at : tie.Need-mul-bits-at Inv-loop μ-loop
-mul-bits-at c = omega arith
-
-bits-at-requires : tie.Need-bits-at-requires Inv-loop μ-loop
-bits-at-requires c κs = omega arith
-
 returns : tie.Need-returns Inv-loop μ-loop
 returns c =
     let k = c .before .before .before in
     let a = k .before .before .args in
     sym (zero-found (now (a .bytes)) (k .loop .k) (a .n) (c .before .before .loop-test .taken) (sym (c .before .bits-at .ensures) ∙ c .if1 .taken))
-
-add-k : tie.Need-add-k Inv-loop μ-loop
-add-k c = omega arith
-
-loop-less : tie.Need-loop-less Inv-loop μ-loop
-loop-less c = omega arith
 
 loop-again : tie.Need-loop-again Inv-loop μ-loop
 loop-again c =
@@ -55,10 +43,10 @@ has-zero-spec =
     Inv-loop
     μ-loop
     loop-holds
-    mul-bits-at
-    bits-at-requires
+    (λ c. omega arith)
+    (λ c κs. omega arith)
     returns
-    add-k
-    loop-less
+    (λ c. omega arith)
+    (λ c. omega arith)
     loop-again
     returns-2)

@@ -21,27 +21,6 @@ abbrev μ-loop : tie.MeasureT-loop
 loop-holds : tie.Need-loop-holds Inv-loop μ-loop
 loop-holds c = filling-start _ _ _ refl
 
-mul-bits-at : tie.Need-mul-bits-at Inv-loop μ-loop
-mul-bits-at c = omega arith
-
-bits-at-requires : tie.Need-bits-at-requires Inv-loop μ-loop
-bits-at-requires c κs = omega arith
-
-of-bits-requires : tie.Need-of-bits-requires Inv-loop μ-loop
-of-bits-requires c κs = search needs
-
-mul-x : tie.Need-mul-x Inv-loop μ-loop
-mul-x c = omega arith
-
-slice-write-x : tie.Need-slice-write-x Inv-loop μ-loop
-slice-write-x c = omega arith
-
-add-k : tie.Need-add-k Inv-loop μ-loop
-add-k c = omega arith
-
-loop-less : tie.Need-loop-less Inv-loop μ-loop
-loop-less c = omega arith
-
 -- the float of the bits that stand there
 read : (p : List ℕ) (k bits : ℕ) (v : Float) → v ≡ ofBits binary32 bits → bits ≡ le32 p (k * 4) → v ≡ readingAt p k
 unfolding readingAt
@@ -66,13 +45,13 @@ readings-spec =
     Inv-loop
     μ-loop
     loop-holds
-    mul-bits-at
-    bits-at-requires
-    of-bits-requires
-    mul-x
-    slice-write-x
-    add-k
-    loop-less
+    (λ c. omega arith)
+    (λ c κs. omega arith)
+    (λ c κs. search needs)
+    (λ c. omega arith)
+    (λ c. omega arith)
+    (λ c. omega arith)
+    (λ c. omega arith)
     loop-again
     same-length
     returns)

@@ -19,9 +19,6 @@ returns : tie.Need-returns
 unfolding windowFound
 returns c = sym (given-yes _ _ _ (eq-eqb (c .before .before .args .latest) 0 (omega arith)))
 
-readings-of-requires : tie.Need-readings-of-requires
-readings-of-requires c κs = search needs
-
 -- there is a latest layer
 latest : (c : tie.Else1) → eqb (c .before .before .args .latest) 0 ≡ false
 latest c = let n = c .before .before .args .latest in ne-eqb n 0 (λ (e : n ≡ 0). omega arith)
@@ -74,4 +71,4 @@ returns-5 c = sym (to-zeros _ (c .before) (c .if4 .left))
 
 pub window-item-spec : {M : Type 1} → statement M
 window-item-spec =
-    tie.close (tie.spec returns readings-of-requires returns-2 returns-3 has-zero-requires returns-4 returns-5)
+    tie.close (tie.spec returns (λ c κs. search needs) returns-2 returns-3 has-zero-requires returns-4 returns-5)

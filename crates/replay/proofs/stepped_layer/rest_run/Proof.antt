@@ -15,60 +15,6 @@ abbrev μ-loop : tie.MeasureT-loop
 loop-holds : tie.Need-loop-holds Inv-loop μ-loop
 loop-holds c = (refl, refl)
 
-run-requires : tie.Need-run-requires Inv-loop μ-loop
-run-requires c κs = omega arith
-
-enum-known-progress : tie.Need-enum-known-progress Inv-loop μ-loop
-enum-known-progress c = omega arith
-
-enum-told : tie.Need-enum-told Inv-loop μ-loop
-enum-told c = omega arith
-
-same-length : tie.Need-same-length Inv-loop μ-loop
-same-length c = omega arith
-
-same-length-2 : tie.Need-same-length-2 Inv-loop μ-loop
-same-length-2 c = omega arith
-
-returns : tie.Need-returns Inv-loop μ-loop
-returns c = omega arith
-
-same-length-3 : tie.Need-same-length-3 Inv-loop μ-loop
-same-length-3 c = omega arith
-
-same-length-4 : tie.Need-same-length-4 Inv-loop μ-loop
-same-length-4 c = omega arith
-
-returns-2 : tie.Need-returns-2 Inv-loop μ-loop
-returns-2 c = omega arith
-
-same-length-5 : tie.Need-same-length-5 Inv-loop μ-loop
-same-length-5 c = omega arith
-
-same-length-6 : tie.Need-same-length-6 Inv-loop μ-loop
-same-length-6 c = omega arith
-
-returns-3 : tie.Need-returns-3 Inv-loop μ-loop
-returns-3 c = omega arith
-
-add-turns : tie.Need-add-turns Inv-loop μ-loop
-add-turns c = omega arith
-
-loop-less : tie.Need-loop-less Inv-loop μ-loop
-loop-less c = omega arith
-
-loop-again : tie.Need-loop-again Inv-loop μ-loop
-loop-again c = omega arith
-
-same-length-7 : tie.Need-same-length-7 Inv-loop μ-loop
-same-length-7 c = omega arith
-
-same-length-8 : tie.Need-same-length-8 Inv-loop μ-loop
-same-length-8 c = omega arith
-
-returns-4 : tie.Need-returns-4 Inv-loop μ-loop
-returns-4 c = omega arith
-
 pub rest-run-spec : {M : Type 1} → statement M
 rest-run-spec =
     tie.close
@@ -76,21 +22,21 @@ rest-run-spec =
     Inv-loop
     μ-loop
     loop-holds
-    run-requires
-    enum-known-progress
-    enum-told
-    same-length
-    same-length-2
-    returns
-    same-length-3
-    same-length-4
-    returns-2
-    same-length-5
-    same-length-6
-    returns-3
-    add-turns
-    loop-less
-    loop-again
-    same-length-7
-    same-length-8
-    returns-4)
+    (λ c κs. omega arith)
+    (λ c. omega arith)
+    (λ c. omega arith)
+    (λ c. omega arith)
+    (λ c. omega arith)
+    (λ c. omega arith)
+    (λ c. omega arith)
+    (λ c. omega arith)
+    (λ c. omega arith)
+    (λ c. omega arith)
+    (λ c. omega arith)
+    (λ c. omega arith)
+    (λ c. omega arith)
+    (λ c. omega arith)
+    (λ c. omega arith)
+    (λ c. omega arith)
+    (λ c. omega arith)
+    (λ c. omega arith))

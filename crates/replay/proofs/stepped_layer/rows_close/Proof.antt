@@ -15,33 +15,6 @@ abbrev μ-loop : tie.MeasureT-loop
 loop-holds : tie.Need-loop-holds Inv-loop μ-loop
 loop-holds c = refl
 
-close-requires : tie.Need-close-requires Inv-loop μ-loop
-close-requires c κs = omega arith
-
-says-requires : tie.Need-says-requires Inv-loop μ-loop
-says-requires c κs = omega arith
-
-same-length : tie.Need-same-length Inv-loop μ-loop
-same-length c = omega arith
-
-returns : tie.Need-returns Inv-loop μ-loop
-returns c = omega arith
-
-add-row : tie.Need-add-row Inv-loop μ-loop
-add-row c = omega arith
-
-loop-less : tie.Need-loop-less Inv-loop μ-loop
-loop-less c = omega arith
-
-loop-again : tie.Need-loop-again Inv-loop μ-loop
-loop-again c = omega arith
-
-same-length-2 : tie.Need-same-length-2 Inv-loop μ-loop
-same-length-2 c = omega arith
-
-returns-2 : tie.Need-returns-2 Inv-loop μ-loop
-returns-2 c = omega arith
-
 pub rows-close-spec : {M : Type 1} → statement M
 rows-close-spec =
     tie.close
@@ -49,12 +22,12 @@ rows-close-spec =
     Inv-loop
     μ-loop
     loop-holds
-    close-requires
-    says-requires
-    same-length
-    returns
-    add-row
-    loop-less
-    loop-again
-    same-length-2
-    returns-2)
+    (λ c κs. omega arith)
+    (λ c κs. omega arith)
+    (λ c. omega arith)
+    (λ c. omega arith)
+    (λ c. omega arith)
+    (λ c. omega arith)
+    (λ c. omega arith)
+    (λ c. omega arith)
+    (λ c. omega arith))

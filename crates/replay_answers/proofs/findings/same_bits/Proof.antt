@@ -3,14 +3,8 @@ use borrow.Author.Needs.{needs}
 use Rattle.replay_answers.proofs.findings.same_bits.Statement.{statement}
 use Rattle.replay_answers.proofs.findings.same_bits.Tie as tie
 
-bits-of-requires : tie.Need-bits-of-requires
-bits-of-requires c κs = search needs
-
-bits-of-requires-2 : tie.Need-bits-of-requires-2
-bits-of-requires-2 c κs = search needs
-
 returns : tie.Need-returns
 returns c = rw (c .before .bits-of .ensures, c .bits-of2 .ensures)
 
 pub same-bits-spec : {M : Type 1} → statement M
-same-bits-spec = tie.close (tie.spec bits-of-requires bits-of-requires-2 returns)
+same-bits-spec = tie.close (tie.spec (λ c κs. search needs) (λ c κs. search needs) returns)

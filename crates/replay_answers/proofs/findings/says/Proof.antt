@@ -3,12 +3,6 @@ use borrow.Author.Needs.{needs}
 use Rattle.replay_answers.proofs.findings.says.Statement.{statement}
 use Rattle.replay_answers.proofs.findings.says.Tie as tie
 
-enum-told : tie.Need-enum-told
-enum-told c = search needs
-
-enum-known-ours : tie.Need-enum-known-ours
-enum-known-ours c = search needs
-
 returns : tie.Need-returns
 returns c = rw (c .enum-told .given .1)
 
@@ -16,4 +10,4 @@ returns-2 : tie.Need-returns-2
 returns-2 c = rw (c .before .before .ours .given .1)
 
 pub says-spec : {M : Type 1} → statement M
-says-spec = tie.close (tie.spec enum-told enum-known-ours returns returns-2)
+says-spec = tie.close (tie.spec (λ c. search needs) (λ c. search needs) returns returns-2)

@@ -5,9 +5,6 @@ use lib.ListN.{List·getD-eq-default}
 use Rattle.replay_answers.proofs.payload.byte_at.Statement.{statement}
 use Rattle.replay_answers.proofs.payload.byte_at.Tie as tie
 
-shared-slice-read-result : tie.Need-shared-slice-read-result
-shared-slice-read-result c = search needs
-
 returns : tie.Need-returns
 returns c = search needs
 
@@ -15,4 +12,4 @@ returns-2 : tie.Need-returns-2
 returns-2 c = sym (List·getD-eq-default (c .before .args .payload .now) 0 (c .if1 .left))
 
 pub byte-at-spec : {M : Type 1} → statement M
-byte-at-spec = tie.close (tie.spec shared-slice-read-result returns returns-2)
+byte-at-spec = tie.close (tie.spec (λ c. search needs) returns returns-2)

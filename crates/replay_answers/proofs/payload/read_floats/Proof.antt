@@ -22,21 +22,6 @@ loop-holds c = filling-start _ _ _ refl
 mul-u32-at : tie.Need-mul-u32-at Inv-loop μ-loop
 mul-u32-at c = search needs
 
-u32-at-requires : tie.Need-u32-at-requires Inv-loop μ-loop
-u32-at-requires c κs = search needs
-
-of-bits-requires : tie.Need-of-bits-requires Inv-loop μ-loop
-of-bits-requires c κs = search needs
-
-mul-out : tie.Need-mul-out Inv-loop μ-loop
-mul-out c = search needs
-
-slice-write-out : tie.Need-slice-write-out Inv-loop μ-loop
-slice-write-out c = search needs
-
-add-i : tie.Need-add-i Inv-loop μ-loop
-add-i c = search needs
-
 loop-less : tie.Need-loop-less Inv-loop μ-loop
 loop-less c = simp length-set (omega arith)
 
@@ -46,9 +31,6 @@ loop-again c =
     let t = c .before .before .before in
     filling-more _ _ _ _ _ _ refl (t .loop .inv) (omega arith)
     (c .of-bits .ensures ∙ ap (ofBits binary32) (c .before .u32-at .ensures))
-
-same-length : tie.Need-same-length Inv-loop μ-loop
-same-length c = search needs
 
 returns : tie.Need-returns Inv-loop μ-loop
 returns c = filling-done _ _ _ _ _ refl (c .before .loop .inv) (omega arith)
@@ -61,12 +43,12 @@ read-floats-spec =
     μ-loop
     loop-holds
     mul-u32-at
-    u32-at-requires
-    of-bits-requires
-    mul-out
-    slice-write-out
-    add-i
+    (λ c κs. search needs)
+    (λ c κs. search needs)
+    (λ c. search needs)
+    (λ c. search needs)
+    (λ c. search needs)
     loop-less
     loop-again
-    same-length
+    (λ c. search needs)
     returns)

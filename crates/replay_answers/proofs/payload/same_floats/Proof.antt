@@ -23,23 +23,8 @@ abbrev μ-loop : tie.MeasureT-loop
 loop-holds : tie.Need-loop-holds Inv-loop μ-loop
 loop-holds c = (omega arith, every-none _)
 
-mul-same-bits : tie.Need-mul-same-bits Inv-loop μ-loop
-mul-same-bits c = search needs
-
-shared-slice-read-same-bits : tie.Need-shared-slice-read-same-bits Inv-loop μ-loop
-shared-slice-read-same-bits c = search needs
-
 mul-u32-at : tie.Need-mul-u32-at Inv-loop μ-loop
 mul-u32-at c = search needs
-
-u32-at-requires : tie.Need-u32-at-requires Inv-loop μ-loop
-u32-at-requires c κs = search needs
-
-of-bits-requires : tie.Need-of-bits-requires Inv-loop μ-loop
-of-bits-requires c κs = search needs
-
-same-bits-requires : tie.Need-same-bits-requires Inv-loop μ-loop
-same-bits-requires c κs = search needs
 
 returns : tie.Need-returns Inv-loop μ-loop
 unfolding sameFloats floatAt
@@ -49,12 +34,6 @@ returns c =
     let v = c .before .before .of-bits .ensures ∙ ap (ofBits binary32) (c .before .before .before .u32-at .ensures) in
     let r = c .before .same-bits in
     sym (every-not _ _ (t .loop .i) (omega arith) (sym (r .ensures ∙ ap (sameBits (getD f (t .loop .i) nan)) v) ∙ not-true (r .result) (c .if1 .taken)))
-
-add-i : tie.Need-add-i Inv-loop μ-loop
-add-i c = search needs
-
-loop-less : tie.Need-loop-less Inv-loop μ-loop
-loop-less c = search needs
 
 loop-again : tie.Need-loop-again Inv-loop μ-loop
 unfolding floatAt
@@ -79,14 +58,14 @@ same-floats-spec =
     Inv-loop
     μ-loop
     loop-holds
-    mul-same-bits
-    shared-slice-read-same-bits
+    (λ c. search needs)
+    (λ c. search needs)
     mul-u32-at
-    u32-at-requires
-    of-bits-requires
-    same-bits-requires
+    (λ c κs. search needs)
+    (λ c κs. search needs)
+    (λ c κs. search needs)
     returns
-    add-i
-    loop-less
+    (λ c. search needs)
+    (λ c. search needs)
     loop-again
     returns-2)

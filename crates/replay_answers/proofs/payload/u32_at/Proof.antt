@@ -24,30 +24,6 @@ returns-2 c =
     let h : length (now (a .payload)) < a .at + 4 = omega arith in
     rw (lt-leb _ _ h)
 
-shared-slice-read-le-u32 : tie.Need-shared-slice-read-le-u32
-shared-slice-read-le-u32 c = search needs
-
-add-le-u32 : tie.Need-add-le-u32
-add-le-u32 c = search needs
-
-shared-slice-read-le-u32-2 : tie.Need-shared-slice-read-le-u32-2
-shared-slice-read-le-u32-2 c = search needs
-
-add-le-u32-2 : tie.Need-add-le-u32-2
-add-le-u32-2 c = search needs
-
-shared-slice-read-le-u32-3 : tie.Need-shared-slice-read-le-u32-3
-shared-slice-read-le-u32-3 c = search needs
-
-add-le-u32-3 : tie.Need-add-le-u32-3
-add-le-u32-3 c = search needs
-
-shared-slice-read-le-u32-4 : tie.Need-shared-slice-read-le-u32-4
-shared-slice-read-le-u32-4 c = search needs
-
-le-u32-requires : tie.Need-le-u32-requires
-le-u32-requires c κs = search needs
-
 returns-3 : tie.Need-returns-3
 unfolding u32At
 returns-3 c =
@@ -62,12 +38,12 @@ u32-at-spec =
     (tie.spec
     returns
     returns-2
-    shared-slice-read-le-u32
-    add-le-u32
-    shared-slice-read-le-u32-2
-    add-le-u32-2
-    shared-slice-read-le-u32-3
-    add-le-u32-3
-    shared-slice-read-le-u32-4
-    le-u32-requires
+    (λ c. search needs)
+    (λ c. search needs)
+    (λ c. search needs)
+    (λ c. search needs)
+    (λ c. search needs)
+    (λ c. search needs)
+    (λ c. search needs)
+    (λ c κs. search needs)
     returns-3)

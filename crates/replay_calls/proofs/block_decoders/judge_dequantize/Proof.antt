@@ -7,29 +7,11 @@ use Rattle.replay_calls.proofs.block_decoders.judge_dequantize.Tie as t
 u32-at-requires : tie.Need-u32-at-requires
 u32-at-requires c κs = tt
 
-cast-room : tie.Need-cast-room
-cast-room c = omega arith
-
 u32-at-requires-2 : tie.Need-u32-at-requires-2
 u32-at-requires-2 c κs = tt
 
-cast-count : tie.Need-cast-count
-cast-count c = omega arith
-
 returns : tie.Need-returns
 returns c = tt
-
-add-end : tie.Need-add-end
-add-end c = omega arith
-
-add-left : tie.Need-add-left
-add-left c = omega arith
-
-mul-if2 : tie.Need-mul-if2
-mul-if2 c = omega arith
-
-add-if2 : tie.Need-add-if2
-add-if2 c = omega arith
 
 returns-2 : tie.Need-returns-2
 returns-2 c = tt
@@ -37,29 +19,8 @@ returns-2 c = tt
 u32-at-requires-3 : tie.Need-u32-at-requires-3
 u32-at-requires-3 c κs = tt
 
-sub-judge-output : tie.Need-sub-judge-output
-sub-judge-output c = omega arith
-
-part-judge-output-start : tie.Need-part-judge-output-start
-part-judge-output-start c = omega arith
-
-part-judge-output-end : tie.Need-part-judge-output-end
-part-judge-output-end c = omega arith
-
-array-borrow-prefix-out : tie.Need-array-borrow-prefix-out
-array-borrow-prefix-out c = omega arith
-
 slice-aggregate-judge-output : tie.Need-slice-aggregate-judge-output
 slice-aggregate-judge-output c = simp length-take (omega arith)
-
-sub-judge-output-2 : tie.Need-sub-judge-output-2
-sub-judge-output-2 c = omega arith
-
-part-judge-output-start-2 : tie.Need-part-judge-output-start-2
-part-judge-output-start-2 c = omega arith
-
-part-judge-output-end-2 : tie.Need-part-judge-output-end-2
-part-judge-output-end-2 c = omega arith
 
 judge-output-requires : tie.Need-judge-output-requires
 judge-output-requires c κs = tt
@@ -72,23 +33,23 @@ judge-dequantize-spec =
     tie.close
     (tie.spec
     u32-at-requires
-    cast-room
+    (λ c. omega arith)
     u32-at-requires-2
-    cast-count
+    (λ c. omega arith)
     returns
-    add-end
-    add-left
-    mul-if2
-    add-if2
+    (λ c. omega arith)
+    (λ c. omega arith)
+    (λ c. omega arith)
+    (λ c. omega arith)
     returns-2
     u32-at-requires-3
-    sub-judge-output
-    part-judge-output-start
-    part-judge-output-end
-    array-borrow-prefix-out
+    (λ c. omega arith)
+    (λ c. omega arith)
+    (λ c. omega arith)
+    (λ c. omega arith)
     slice-aggregate-judge-output
-    sub-judge-output-2
-    part-judge-output-start-2
-    part-judge-output-end-2
+    (λ c. omega arith)
+    (λ c. omega arith)
+    (λ c. omega arith)
     judge-output-requires
     returns-3)

@@ -13,23 +13,11 @@ abbrev μ-loop : tie.MeasureT-loop
 loop-holds : tie.Need-loop-holds Inv-loop μ-loop
 loop-holds c = tt
 
-add-byte-at : tie.Need-add-byte-at Inv-loop μ-loop
-add-byte-at c = omega arith
-
 byte-at-requires : tie.Need-byte-at-requires Inv-loop μ-loop
 byte-at-requires c κs = tt
 
 signed-byte-requires : tie.Need-signed-byte-requires Inv-loop μ-loop
 signed-byte-requires c κs = tt
-
-array-set-from-qs : tie.Need-array-set-from-qs Inv-loop μ-loop
-array-set-from-qs c = omega arith
-
-add-i : tie.Need-add-i Inv-loop μ-loop
-add-i c = omega arith
-
-loop-less : tie.Need-loop-less Inv-loop μ-loop
-loop-less c = omega arith
 
 loop-again : tie.Need-loop-again Inv-loop μ-loop
 loop-again c = tt
@@ -44,11 +32,11 @@ read-quants-spec =
     Inv-loop
     μ-loop
     loop-holds
-    add-byte-at
+    (λ c. omega arith)
     byte-at-requires
     signed-byte-requires
-    array-set-from-qs
-    add-i
-    loop-less
+    (λ c. omega arith)
+    (λ c. omega arith)
+    (λ c. omega arith)
     loop-again
     returns)

@@ -22,23 +22,11 @@ abbrev μ-loop : tie.MeasureT-loop
 loop-holds : tie.Need-loop-holds Inv-loop μ-loop
 loop-holds c = (omega arith, every-none _)
 
-element-copy-out-if1 : tie.Need-element-copy-out-if1 Inv-loop μ-loop
-element-copy-out-if1 c = omega arith
-
-element-copy-out-if1-2 : tie.Need-element-copy-out-if1-2 Inv-loop μ-loop
-element-copy-out-if1-2 c = omega arith
-
 returns : tie.Need-returns Inv-loop μ-loop
 returns c =
     let t = c .before .before .before .before in
     let a = t .before .args in
     sym (every-not _ 256 (t .loop .i) (omega arith) (eqZ-not (elem (a .a .now) (t .loop .i)) (elem (a .b .now) (t .loop .i)) (λ e. c .if1 .taken (ap (ofZ w8) e))))
-
-add-i : tie.Need-add-i Inv-loop μ-loop
-add-i c = omega arith
-
-loop-less : tie.Need-loop-less Inv-loop μ-loop
-loop-less c = omega arith
 
 loop-again : tie.Need-loop-again Inv-loop μ-loop
 loop-again c =
@@ -60,10 +48,10 @@ same-quants-spec =
     Inv-loop
     μ-loop
     loop-holds
-    element-copy-out-if1
-    element-copy-out-if1-2
+    (λ c. omega arith)
+    (λ c. omega arith)
     returns
-    add-i
-    loop-less
+    (λ c. omega arith)
+    (λ c. omega arith)
     loop-again
     returns-2)

@@ -11,27 +11,12 @@ use Rattle.numbers.proofs.Signed.{below-zero}
 use Rattle.replay_calls.proofs.blocks.signed.Statement.{statement}
 use Rattle.replay_calls.proofs.blocks.signed.Tie as tie
 
-cast-result : tie.Need-cast-result
-cast-result c = search needs
-
-sub-result : tie.Need-sub-result
-sub-result c = search needs
-
-cast-result-2 : tie.Need-cast-result-2
-cast-result-2 c = search needs
-
 high : (b : ℕ) → b < 4294967296 → 2147483648 ≤ b → negsuc 0 -ℤ toZ w32 (4294967295 - b) ≡ negsuc (4294967295 - b)
 high b l h = ap (λ (z : ℤ). negsuc 0 -ℤ z) (toZ-pos w32 (4294967295 - b) (omega arith)) ∙ below-zero (4294967295 - b)
 
 sub-result-2 : tie.Need-sub-result-2
 sub-result-2 c = rw (high (c .before .args .bits) (c .before .fits .bits .fits) (c .if1 .left)) (record { sfits = omega arith })
 
-returns : tie.Need-returns
-returns c = search needs
-
-returns-2 : tie.Need-returns-2
-returns-2 c = search needs
-
 pub signed-spec : {M : Type 1} → statement M
 signed-spec =
-    tie.close (tie.spec cast-result sub-result cast-result-2 sub-result-2 returns returns-2)
+    tie.close (tie.spec (λ c. search needs) (λ c. search needs) (λ c. search needs) sub-result-2 (λ c. search needs) (λ c. search needs))

@@ -11,24 +11,12 @@ use Rattle.stepped.specs.Says.{closeSays}
 use Rattle.stepped.proofs.closing.close.Statement.{statement}
 use Rattle.stepped.proofs.closing.close.Tie as tie
 
-format-named-requires : tie.Need-format-named-requires
-format-named-requires c κs = search needs
-
 enum-told : tie.Need-enum-told
 enum-told c = search needs
-
-enum-told-2 : tie.Need-enum-told-2
-enum-told-2 c = search needs
 
 returns : tie.Need-returns
 unfolding closeSays
 returns c = by-unknown _ _ (c .before .before .format-named .ensures) (c .enum-told2 .given .1)
-
-close-refusal-requires : tie.Need-close-refusal-requires
-close-refusal-requires c κs = search needs
-
-enum-known-refusal : tie.Need-enum-known-refusal
-enum-known-refusal c = search needs
 
 returns-2 : tie.Need-returns-2
 unfolding closeSays
@@ -36,9 +24,6 @@ returns-2 c =
     let p = c .before .before .before in
     let f = p .before in
     refused-out _ _ (p .close-refusal .ensures) (c .before .refusal .given .1) ∙ by-known _ _ (f .before .before .format-named .ensures) (f .enum-told .given .1)
-
-enum-told-3 : tie.Need-enum-told-3
-enum-told-3 c = search needs
 
 able : (c : tie.After-enum-told3) → let a = c .before .before .before .before .before .before .before .before .before .args in
     Closable (a .l) (length (now (a .slots))) (now (a .marks)) (length (now (a .y))) (a .row)
@@ -69,14 +54,14 @@ pub close-spec : {M : Type 1} → statement M
 close-spec =
     tie.close
     (tie.spec
-    format-named-requires
+    (λ c κs. search needs)
     enum-told
-    enum-told-2
+    (λ c. search needs)
     returns
-    close-refusal-requires
-    enum-known-refusal
+    (λ c κs. search needs)
+    (λ c. search needs)
     returns-2
-    enum-told-3
+    (λ c. search needs)
     meet-requires
     mul-y
     slice-write-y

@@ -20,24 +20,12 @@ use Rattle.stepped.proofs.opening.open.Tie as tie
 front-filled : {A : Type 0} (f : ℕ → A) (xs front : List A) (n m : ℕ) → n ≡ m → n ≤ length xs → front ≡ table f (length (take n xs)) → front ++ drop n xs ≡ filled f xs m
 front-filled {A = A} f xs front n m e h t = ap (λ (ys : List A). ys ++ drop n xs) (t ∙ ap (table f) (length-take-le n xs h)) ∙ ap (filled f xs) e
 
-format-named-requires : tie.Need-format-named-requires
-format-named-requires c κs = search needs
-
 enum-told : tie.Need-enum-told
 enum-told c = search needs
-
-enum-told-2 : tie.Need-enum-told-2
-enum-told-2 c = search needs
 
 returns : tie.Need-returns
 unfolding openSays
 returns c = by-unknown _ _ (c .before .before .format-named .ensures) (c .enum-told2 .given .1)
-
-open-refusal-requires : tie.Need-open-refusal-requires
-open-refusal-requires c κs = search needs
-
-enum-known-refusal : tie.Need-enum-known-refusal
-enum-known-refusal c = search needs
 
 returns-2 : tie.Need-returns-2
 unfolding openSays
@@ -45,9 +33,6 @@ returns-2 c =
     let p = c .before .before .before in
     let f = p .before in
     refused-out _ _ (p .open-refusal .ensures) (c .before .refusal .given .1) ∙ by-known _ _ (f .before .before .format-named .ensures) (f .enum-told .given .1)
-
-enum-told-3 : tie.Need-enum-told-3
-enum-told-3 c = search needs
 
 able : (c : tie.After-enum-told3) → let a = c .before .before .before .before .before .before .before .before .args in
     Openable (a .l) (length (now (a .slots))) (length (now (a .marks)))
@@ -62,9 +47,6 @@ slice-relend-prefix-clear-slots c = omega (arith, c .pieces-of .ensures, able (c
 slice-aggregate-clear-slots : tie.Need-slice-aggregate-clear-slots
 slice-aggregate-clear-slots c = sym (length-take-le _ _ (slice-relend-prefix-clear-slots (c .before)))
 
-clear-slots-requires : tie.Need-clear-slots-requires
-clear-slots-requires c κs = search needs
-
 slice-relend-prefix-clear-marks : tie.Need-slice-relend-prefix-clear-marks
 slice-relend-prefix-clear-marks c =
     let k = c .before .before .before .before in
@@ -72,9 +54,6 @@ slice-relend-prefix-clear-marks c =
 
 slice-aggregate-clear-marks : tie.Need-slice-aggregate-clear-marks
 slice-aggregate-clear-marks c = sym (length-take-le _ _ (slice-relend-prefix-clear-marks (c .before)))
-
-clear-marks-requires : tie.Need-clear-marks-requires
-clear-marks-requires c κs = search needs
 
 same-length : tie.Need-same-length
 same-length c = search needs
@@ -103,21 +82,21 @@ pub open-spec : {M : Type 1} → statement M
 open-spec =
     tie.close
     (tie.spec
-    format-named-requires
+    (λ c κs. search needs)
     enum-told
-    enum-told-2
+    (λ c. search needs)
     returns
-    open-refusal-requires
-    enum-known-refusal
+    (λ c κs. search needs)
+    (λ c. search needs)
     returns-2
-    enum-told-3
+    (λ c. search needs)
     pieces-of-requires
     slice-relend-prefix-clear-slots
     slice-aggregate-clear-slots
-    clear-slots-requires
+    (λ c κs. search needs)
     slice-relend-prefix-clear-marks
     slice-aggregate-clear-marks
-    clear-marks-requires
+    (λ c κs. search needs)
     same-length
     same-length-2
     returns-3)

@@ -17,24 +17,12 @@ use Rattle.stepped.proofs.Counts.{run-done}
 use Rattle.stepped.proofs.running.run.Statement.{statement}
 use Rattle.stepped.proofs.running.run.Tie as tie
 
-format-named-requires : tie.Need-format-named-requires
-format-named-requires c κs = search needs
-
-enum-known-format : tie.Need-enum-known-format
-enum-known-format c = search needs
-
 enum-told : tie.Need-enum-told
 enum-told c = search needs
 
 returns : tie.Need-returns
 unfolding runSays
 returns c = by-unknown _ _ (c .before .before .format-named .ensures) (c .enum-told .given .1)
-
-work-refusal-requires : tie.Need-work-refusal-requires
-work-refusal-requires c κs = search needs
-
-enum-known-refusal : tie.Need-enum-known-refusal
-enum-known-refusal c = search needs
 
 returns-2 : tie.Need-returns-2
 unfolding runSays
@@ -43,9 +31,6 @@ returns-2 c =
     let f = p .before .before in
     sym (carried-refused _ _ _ _ (else-first _ _ _ (check-refused (p .work-refusal .ensures) (c .before .refusal .given .1))))
     ∙ by-known _ _ (f .before .before .format-named .ensures) (f .format .given .1)
-
-enum-told-2 : tie.Need-enum-told-2
-enum-told-2 c = search needs
 
 able : (c : tie.After-enum-told2) → let f = c .before .before .before .before in let a = f .before .before .before .before .before .before .before .args in
     workRefusal (f .format .given .0 .0) (a .l) (length (now (a .w))) (length (now (a .x))) (length (now (a .slots))) (length (now (a .marks))) ≡ done
@@ -92,4 +77,4 @@ returns-3 c =
 pub run-spec : {M : Type 1} → statement M
 run-spec =
     tie.close
-    (tie.spec format-named-requires enum-known-format enum-told returns work-refusal-requires enum-known-refusal returns-2 enum-told-2 work-open-requires pieces-of-requires slice-reshare-prefix-count-open slice-aggregate-count-open count-open-requires same-length same-length-2 returns-3)
+    (tie.spec (λ c κs. search needs) (λ c. search needs) enum-told returns (λ c κs. search needs) (λ c. search needs) returns-2 (λ c. search needs) work-open-requires pieces-of-requires slice-reshare-prefix-count-open slice-aggregate-count-open count-open-requires same-length same-length-2 returns-3)

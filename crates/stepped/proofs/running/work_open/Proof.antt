@@ -29,9 +29,6 @@ Inv-rows format l w x budget slots₀ marks₀ rows chunks done₀ row₀ slots 
 abbrev μ-rows : tie.MeasureT-rows
 μ-rows format l w x budget slots₀ marks₀ rows chunks done₀ row₀ slots marks done row = rows - row
 
-chunks-of-requires : tie.Need-chunks-of-requires Inv-loop μ-loop Inv-rows μ-rows
-chunks-of-requires c κs = search needs
-
 rows-holds : tie.Need-rows-holds Inv-loop μ-loop Inv-rows μ-rows
 unfolding visitRows
 rows-holds c = (omega arith, record { slots-len = refl; marks-len = refl; few = omega arith; state = refl })
@@ -81,12 +78,6 @@ add-done c =
     let e = c .before .before .before .before .before .before .before .before .before .before in
     omega (arith, fewer e, start e .fits .budget)
 
-add-chunk : tie.Need-add-chunk Inv-loop μ-loop Inv-rows μ-rows
-add-chunk c = omega arith
-
-loop-less : tie.Need-loop-less Inv-loop μ-loop Inv-rows μ-rows
-loop-less c = omega arith
-
 loop-again : tie.Need-loop-again Inv-loop μ-loop Inv-rows μ-rows
 loop-again c =
     let e = c .before .before .before in
@@ -104,12 +95,6 @@ loop-again c =
           (kept-done (a .format) (a .l) (now (a .w)) (now (a .x)) (a .budget) (b .holds) k (o .row) (i .chunk) b (i .inv .1) (fewer e) (simp at at (q .0 .left))))
           (c .if2 .came),
     )
-
-add-row : tie.Need-add-row Inv-loop μ-loop Inv-rows μ-rows
-add-row c = omega arith
-
-rows-less : tie.Need-rows-less Inv-loop μ-loop Inv-rows μ-rows
-rows-less c = omega arith
 
 rows-again : tie.Need-rows-again Inv-loop μ-loop Inv-rows μ-rows
 rows-again c =
@@ -160,18 +145,18 @@ work-open-spec =
     μ-loop
     Inv-rows
     μ-rows
-    chunks-of-requires
+    (λ c κs. search needs)
     rows-holds
     loop-holds
     place-of-requires
     slice-read-if2
     work-one-requires
     add-done
-    add-chunk
-    loop-less
+    (λ c. omega arith)
+    (λ c. omega arith)
     loop-again
-    add-row
-    rows-less
+    (λ c. omega arith)
+    (λ c. omega arith)
     rows-again
     same-length
     same-length-2

@@ -35,12 +35,6 @@ mul-from c = omega (arith, row-in c)
 add-to : tie.Need-add-to
 add-to c = omega (arith, row-in c)
 
-sub-chunk-dot : tie.Need-sub-chunk-dot
-sub-chunk-dot c = search needs
-
-part-chunk-dot-start : tie.Need-part-chunk-dot-start
-part-chunk-dot-start c = search needs
-
 part-chunk-dot-end : tie.Need-part-chunk-dot-end
 part-chunk-dot-end c = omega (arith, row-in c)
 
@@ -67,4 +61,4 @@ returns c =
     (lent-part (now (a .w)) (a .row) (b .row-bytes .result) (rowBytes (a .format) (a .l .«in_feat»)) (b .row-bytes .ensures))
 
 pub chunk-sum-spec : {M : Type 1} → statement M
-chunk-sum-spec = tie.close (tie.spec row-bytes-requires mul-from add-to sub-chunk-dot part-chunk-dot-start part-chunk-dot-end chunk-dot-requires returns)
+chunk-sum-spec = tie.close (tie.spec row-bytes-requires mul-from add-to (λ c. search needs) (λ c. search needs) part-chunk-dot-end chunk-dot-requires returns)

@@ -11,21 +11,9 @@ use Rattle.stepped_pieces.proofs.pieces.piece.Tie as tie
 format-named-requires : tie.Need-format-named-requires
 format-named-requires c κs = search needs
 
-enum-known-format : tie.Need-enum-known-format
-enum-known-format c = search needs
-
-enum-told : tie.Need-enum-told
-enum-told c = search needs
-
 returns : tie.Need-returns
 unfolding pieceSays
 returns c = by-unknown _ _ (c .before .before .format-named .ensures) (c .enum-told .given .1)
-
-piece-refusal-requires : tie.Need-piece-refusal-requires
-piece-refusal-requires c κs = search needs
-
-enum-known-refusal : tie.Need-enum-known-refusal
-enum-known-refusal c = search needs
 
 same-length : tie.Need-same-length
 same-length c = search needs
@@ -36,9 +24,6 @@ returns-2 c =
     let p = c .before .before .before in
     let f = p .before .before .before in
     refused-out _ _ (p .piece-refusal .ensures) (c .before .refusal .given .1) ∙ by-known _ _ (f .before .before .format-named .ensures) (f .format .given .1)
-
-enum-told-2 : tie.Need-enum-told-2
-enum-told-2 c = search needs
 
 work-one-requires : tie.Need-work-one-requires
 work-one-requires c κs =
@@ -67,14 +52,14 @@ piece-spec =
     tie.close
     (tie.spec
     format-named-requires
-    enum-known-format
-    enum-told
+    (λ c. search needs)
+    (λ c. search needs)
     returns
-    piece-refusal-requires
-    enum-known-refusal
+    (λ c κs. search needs)
+    (λ c. search needs)
     same-length
     returns-2
-    enum-told-2
+    (λ c. search needs)
     work-one-requires
     same-length-2
     same-length-3

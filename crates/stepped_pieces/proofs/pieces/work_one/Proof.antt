@@ -12,9 +12,6 @@ chunk-sum-requires c κs = search needs
 mul-slots : tie.Need-mul-slots
 mul-slots c = search needs
 
-slice-write-slots : tie.Need-slice-write-slots
-slice-write-slots c = search needs
-
 slice-write-marks : tie.Need-slice-write-marks
 slice-write-marks c = search needs
 
@@ -34,7 +31,7 @@ work-one-spec =
     place-of-requires
     chunk-sum-requires
     mul-slots
-    slice-write-slots
+    (λ c. search needs)
     slice-write-marks
     same-length
     same-length-2

@@ -83,9 +83,6 @@ array-write-sums c = omega (arith, row-in (c .before .before .before .before))
 add-c : tie.Need-add-c Inv-loop μ-loop
 add-c c = omega (arith, row-in (c .before .before .before .before))
 
-loop-less : tie.Need-loop-less Inv-loop μ-loop
-loop-less c = omega arith
-
 loop-again : tie.Need-loop-again Inv-loop μ-loop
 loop-again c =
     let k = c .before .before in
@@ -96,9 +93,6 @@ array-borrow-prefix-sums c = let k = c .before in omega (arith, row-in (k .befor
 
 slice-aggregate-canonical-combine : tie.Need-slice-aggregate-canonical-combine Inv-loop μ-loop
 slice-aggregate-canonical-combine c = sym (length-take-le _ _ (array-borrow-prefix-sums (c .before)))
-
-canonical-combine-requires : tie.Need-canonical-combine-requires Inv-loop μ-loop
-canonical-combine-requires c κs = omega arith
 
 returns-2 : tie.Need-returns-2 Inv-loop μ-loop
 unfolding rowMet place
@@ -114,4 +108,4 @@ returns-2 c =
 pub meet-spec : {M : Type 1} → statement M
 meet-spec =
     tie.close
-    (tie.spec Inv-loop μ-loop chunks-of-requires mul-at mul-result shared-slice-read-result returns loop-holds add-sums mul-sums shared-slice-read-sums mul-sums-2 array-write-sums add-c loop-less loop-again array-borrow-prefix-sums slice-aggregate-canonical-combine canonical-combine-requires returns-2)
+    (tie.spec Inv-loop μ-loop chunks-of-requires mul-at mul-result shared-slice-read-result returns loop-holds add-sums mul-sums shared-slice-read-sums mul-sums-2 array-write-sums add-c (λ c. omega arith) loop-again array-borrow-prefix-sums slice-aggregate-canonical-combine (λ c κs. omega arith) returns-2)

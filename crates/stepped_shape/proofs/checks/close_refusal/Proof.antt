@@ -16,18 +16,9 @@ use Rattle.stepped_shape.proofs.Shapes.{openable, row-within, few-piece
 use Rattle.stepped_shape.proofs.checks.close_refusal.Statement.{statement}
 use Rattle.stepped_shape.proofs.checks.close_refusal.Tie as tie
 
-open-refusal-requires : tie.Need-open-refusal-requires
-open-refusal-requires c κs = search needs
-
-enum-known-refusal : tie.Need-enum-known-refusal
-enum-known-refusal c = search needs
-
 returns : tie.Need-returns
 unfolding closeRefusal
 returns c = sym (else-first _ _ _ (check-refused (c .before .before .before .open-refusal .ensures) (c .before .refusal .given .1)))
-
-enum-told : tie.Need-enum-told
-enum-told c = search needs
 
 able : (c : tie.After-enum-told) → let a = c .before .before .before .before .args in openRefusal (a .l) (a .slots) (length (now (a .marks))) ≡ done
 able c = check-passed (c .before .before .open-refusal .ensures) (c .enum-told .given .1)
@@ -61,12 +52,6 @@ mul-at c = omega (arith, row-in c)
 
 add-end : tie.Need-add-end
 add-end c = omega (arith, row-in c)
-
-sub-count-open : tie.Need-sub-count-open
-sub-count-open c = search needs
-
-part-count-open-start : tie.Need-part-count-open-start
-part-count-open-start c = search needs
 
 part-count-open-end : tie.Need-part-count-open-end
 part-count-open-end c = omega (arith, row-in c)
@@ -108,4 +93,4 @@ returns-5 c =
 pub close-refusal-spec : {M : Type 1} → statement M
 close-refusal-spec =
     tie.close
-    (tie.spec open-refusal-requires enum-known-refusal returns enum-told returns-2 returns-3 chunks-of-requires mul-at add-end sub-count-open part-count-open-start part-count-open-end count-open-requires returns-4 returns-5)
+    (tie.spec (λ c κs. search needs) (λ c. search needs) returns (λ c. search needs) returns-2 returns-3 chunks-of-requires mul-at add-end (λ c. search needs) (λ c. search needs) part-count-open-end count-open-requires returns-4 returns-5)

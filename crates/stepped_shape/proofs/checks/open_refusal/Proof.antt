@@ -7,18 +7,9 @@ use Rattle.stepped_shape.specs.Refusals.{shapeRefusal, openRefusal}
 use Rattle.stepped_shape.proofs.checks.open_refusal.Statement.{statement}
 use Rattle.stepped_shape.proofs.checks.open_refusal.Tie as tie
 
-shape-refusal-requires : tie.Need-shape-refusal-requires
-shape-refusal-requires c κs = search needs
-
-enum-known-refusal : tie.Need-enum-known-refusal
-enum-known-refusal c = search needs
-
 returns : tie.Need-returns
 unfolding openRefusal
 returns c = sym (else-first _ _ _ (check-refused (c .before .before .before .shape-refusal .ensures) (c .before .refusal .given .1)))
-
-enum-told : tie.Need-enum-told
-enum-told c = search needs
 
 shape : (c : tie.After-enum-told) → shapeRefusal (c .before .before .before .args .l) ≡ done
 shape c = check-passed (c .before .before .shape-refusal .ensures) (c .enum-told .given .1)
@@ -33,4 +24,4 @@ returns-2 c = c .room-refusal .ensures ∙ sym (else-later _ _ (shape (c .before
 pub open-refusal-spec : {M : Type 1} → statement M
 open-refusal-spec =
     tie.close
-    (tie.spec shape-refusal-requires enum-known-refusal returns enum-told room-refusal-requires returns-2)
+    (tie.spec (λ c κs. search needs) (λ c. search needs) returns (λ c. search needs) room-refusal-requires returns-2)

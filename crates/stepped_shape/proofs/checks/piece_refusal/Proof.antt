@@ -14,18 +14,9 @@ use Rattle.stepped_shape.proofs.Shapes.{workable}
 use Rattle.stepped_shape.proofs.checks.piece_refusal.Statement.{statement}
 use Rattle.stepped_shape.proofs.checks.piece_refusal.Tie as tie
 
-work-refusal-requires : tie.Need-work-refusal-requires
-work-refusal-requires c κs = search needs
-
-enum-known-refusal : tie.Need-enum-known-refusal
-enum-known-refusal c = search needs
-
 returns : tie.Need-returns
 unfolding pieceRefusal
 returns c = sym (else-first _ _ _ (check-refused (c .before .before .before .work-refusal .ensures) (c .before .refusal .given .1)))
-
-enum-told : tie.Need-enum-told
-enum-told c = search needs
 
 able : (c : tie.After-enum-told) → let a = c .before .before .before .before .args in
     workRefusal (a .format) (a .l) (a .weights) (a .readings) (a .slots) (length (now (a .marks))) ≡ done
@@ -83,4 +74,4 @@ returns-5 c =
 pub piece-refusal-spec : {M : Type 1} → statement M
 piece-refusal-spec =
     tie.close
-    (tie.spec work-refusal-requires enum-known-refusal returns enum-told returns-2 chunks-of-requires returns-3 place-of-requires shared-slice-read-if3 returns-4 returns-5)
+    (tie.spec (λ c κs. search needs) (λ c. search needs) returns (λ c. search needs) returns-2 chunks-of-requires returns-3 place-of-requires shared-slice-read-if3 returns-4 returns-5)

@@ -7,9 +7,6 @@ use Rattle.stepped_shape.specs.Refusals.{roomRefusal}
 use Rattle.stepped_shape.proofs.checks.room_refusal.Statement.{statement}
 use Rattle.stepped_shape.proofs.checks.room_refusal.Tie as tie
 
-pieces-of-requires : tie.Need-pieces-of-requires
-pieces-of-requires c κs = search needs
-
 returns : tie.Need-returns
 unfolding roomRefusal
 returns c = rw (sym (c .before .pieces-of .ensures)) (sym (given-yes _ _ _ (lt-ltb _ _ (c .if1 .taken))))
@@ -27,4 +24,4 @@ returns-3 c =
     (sym (given-no _ _ _ (le-ltb _ _ (c .before .if1 .left)) ∙ given-no _ _ _ (le-ltb _ _ (c .if2 .left))))
 
 pub room-refusal-spec : {M : Type 1} → statement M
-room-refusal-spec = tie.close (tie.spec pieces-of-requires returns returns-2 returns-3)
+room-refusal-spec = tie.close (tie.spec (λ c κs. search needs) returns returns-2 returns-3)

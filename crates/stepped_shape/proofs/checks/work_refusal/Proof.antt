@@ -9,18 +9,9 @@ use Rattle.stepped_shape.proofs.Shapes.{shaped}
 use Rattle.stepped_shape.proofs.checks.work_refusal.Statement.{statement}
 use Rattle.stepped_shape.proofs.checks.work_refusal.Tie as tie
 
-shape-refusal-requires : tie.Need-shape-refusal-requires
-shape-refusal-requires c κs = search needs
-
-enum-known-refusal : tie.Need-enum-known-refusal
-enum-known-refusal c = search needs
-
 returns : tie.Need-returns
 unfolding workRefusal
 returns c = sym (else-first _ _ _ (check-refused (c .before .before .before .shape-refusal .ensures) (c .before .refusal .given .1)))
-
-enum-told : tie.Need-enum-told
-enum-told c = search needs
 
 shape : (c : tie.After-enum-told) → shapeRefusal (c .before .before .before .args .l) ≡ done
 shape c = check-passed (c .before .before .shape-refusal .ensures) (c .enum-told .given .1)
@@ -59,10 +50,10 @@ pub work-refusal-spec : {M : Type 1} → statement M
 work-refusal-spec =
     tie.close
     (tie.spec
-    shape-refusal-requires
-    enum-known-refusal
+    (λ c κs. search needs)
+    (λ c. search needs)
     returns
-    enum-told
+    (λ c. search needs)
     weight-bytes-requires
     returns-2
     returns-3

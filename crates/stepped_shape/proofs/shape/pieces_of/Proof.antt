@@ -6,9 +6,6 @@ use Rattle.stepped_shape.proofs.Shapes.{few-pieces}
 use Rattle.stepped_shape.proofs.shape.pieces_of.Statement.{statement}
 use Rattle.stepped_shape.proofs.shape.pieces_of.Tie as tie
 
-chunks-of-requires : tie.Need-chunks-of-requires
-chunks-of-requires c κs = search needs
-
 mul-result : tie.Need-mul-result
 unfolding pieces
 mul-result c = rw (c .before .chunks-of .ensures) (omega (arith, few-pieces _ (c .before .before .pre)))
@@ -18,4 +15,4 @@ unfolding pieces
 returns c = rw (c .before .chunks-of .ensures)
 
 pub pieces-of-spec : {M : Type 1} → statement M
-pieces-of-spec = tie.close (tie.spec chunks-of-requires mul-result returns)
+pieces-of-spec = tie.close (tie.spec (λ c κs. search needs) mul-result returns)

@@ -38,56 +38,8 @@ returns c =
     ∙ chunk-cong _ _ n (λ i h. rw (getD-take n (a .x .now) i nan h, getD-take n (a .w .now) i nan h))
     ∙ one-chunk (products (a .x .now) (a .w .now)) n (omega arith) (omega arith)
 
-chunks-in-requires : tie.Need-chunks-in-requires Inv-loop μ-loop
-chunks-in-requires c κs = omega arith
-
 loop-holds : tie.Need-loop-holds Inv-loop μ-loop
 loop-holds c = chunking-start _ _ _ refl
-
-mul-s : tie.Need-mul-s Inv-loop μ-loop
-mul-s c = omega arith
-
-chunk-end-requires : tie.Need-chunk-end-requires Inv-loop μ-loop
-chunk-end-requires c κs = omega arith
-
-mul-chunk-dot : tie.Need-mul-chunk-dot Inv-loop μ-loop
-mul-chunk-dot c = omega arith
-
-sub-chunk-dot : tie.Need-sub-chunk-dot Inv-loop μ-loop
-sub-chunk-dot c = omega arith
-
-part-chunk-dot-start : tie.Need-part-chunk-dot-start Inv-loop μ-loop
-part-chunk-dot-start c = omega arith
-
-part-chunk-dot-end : tie.Need-part-chunk-dot-end Inv-loop μ-loop
-part-chunk-dot-end c = omega arith
-
-mul-chunk-dot-2 : tie.Need-mul-chunk-dot-2 Inv-loop μ-loop
-mul-chunk-dot-2 c = omega arith
-
-sub-chunk-dot-2 : tie.Need-sub-chunk-dot-2 Inv-loop μ-loop
-sub-chunk-dot-2 c = omega arith
-
-part-chunk-dot-start-2 : tie.Need-part-chunk-dot-start-2 Inv-loop μ-loop
-part-chunk-dot-start-2 c = omega arith
-
-part-chunk-dot-end-2 : tie.Need-part-chunk-dot-end-2 Inv-loop μ-loop
-part-chunk-dot-end-2 c = omega arith
-
-chunk-dot-requires-2 : tie.Need-chunk-dot-requires-2 Inv-loop μ-loop
-chunk-dot-requires-2 c κs = omega arith
-
-mul-sums : tie.Need-mul-sums Inv-loop μ-loop
-mul-sums c = omega arith
-
-array-write-sums : tie.Need-array-write-sums Inv-loop μ-loop
-array-write-sums c = omega arith
-
-add-c : tie.Need-add-c Inv-loop μ-loop
-add-c c = omega arith
-
-loop-less : tie.Need-loop-less Inv-loop μ-loop
-loop-less c = omega arith
 
 loop-again : tie.Need-loop-again Inv-loop μ-loop
 loop-again c =
@@ -99,16 +51,10 @@ loop-again c =
     let v = c .chunk-dot2 .ensures ∙ chunk-part (products (a .x .now) (a .w .now)) _ (a .n) (b .loop .c) _ (omega arith) (λ i h. products-part (a .x .now) (a .w .now) s (e - s) (e - s) i (omega arith) (omega arith)) in
     chunking-more (products (a .x .now) (a .w .now)) (a .n) _ (b .loop .sums) (b .loop .c) _ refl (omega arith) (omega arith) v (b .loop .inv)
 
-array-borrow-prefix-sums : tie.Need-array-borrow-prefix-sums Inv-loop μ-loop
-array-borrow-prefix-sums c = omega arith
-
 slice-aggregate-canonical-combine : tie.Need-slice-aggregate-canonical-combine Inv-loop μ-loop
 slice-aggregate-canonical-combine c =
     let b = c .before .before in
     sym (length-take-le (b .before .chunks-in .result) (b .loop .sums) (omega arith))
-
-canonical-combine-requires : tie.Need-canonical-combine-requires Inv-loop μ-loop
-canonical-combine-requires c κs = omega arith
 
 returns-2 : tie.Need-returns-2 Inv-loop μ-loop
 returns-2 c =
@@ -127,25 +73,25 @@ row-dot-spec =
     slice-aggregate-chunk-dot-2
     chunk-dot-requires
     returns
-    chunks-in-requires
+    (λ c κs. omega arith)
     loop-holds
-    mul-s
-    chunk-end-requires
-    mul-chunk-dot
-    sub-chunk-dot
-    part-chunk-dot-start
-    part-chunk-dot-end
-    mul-chunk-dot-2
-    sub-chunk-dot-2
-    part-chunk-dot-start-2
-    part-chunk-dot-end-2
-    chunk-dot-requires-2
-    mul-sums
-    array-write-sums
-    add-c
-    loop-less
+    (λ c. omega arith)
+    (λ c κs. omega arith)
+    (λ c. omega arith)
+    (λ c. omega arith)
+    (λ c. omega arith)
+    (λ c. omega arith)
+    (λ c. omega arith)
+    (λ c. omega arith)
+    (λ c. omega arith)
+    (λ c. omega arith)
+    (λ c κs. omega arith)
+    (λ c. omega arith)
+    (λ c. omega arith)
+    (λ c. omega arith)
+    (λ c. omega arith)
     loop-again
-    array-borrow-prefix-sums
+    (λ c. omega arith)
     slice-aggregate-canonical-combine
-    canonical-combine-requires
+    (λ c κs. omega arith)
     returns-2)

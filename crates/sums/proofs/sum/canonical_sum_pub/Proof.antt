@@ -20,13 +20,10 @@ returns-3 : tie.Need-returns-3
 unfolding sumSays given
 returns-3 c = simp (le-ltb _ _ (c .before .before .if1 .left), ne-eqb _ _ (c .before .if2 .left), lt-ltb _ _ (c .if3 .taken))
 
-row-total-requires : tie.Need-row-total-requires
-row-total-requires c κs = search needs
-
 returns-4 : tie.Need-returns-4
 unfolding sumSays given
 returns-4 c = simp (le-ltb _ _ (c .before .before .before .if1 .left), ne-eqb _ _ (c .before .before .if2 .left), le-ltb _ _ (c .before .if3 .left)) (ap value (c .row-total .ensures))
 
 pub canonical-sum-pub-spec : {M : Type 1} → statement M
 canonical-sum-pub-spec =
-    tie.close (tie.spec returns returns-2 returns-3 row-total-requires returns-4)
+    tie.close (tie.spec returns returns-2 returns-3 (λ c κs. search needs) returns-4)

@@ -17,42 +17,6 @@ abbrev μ-loop : tie.MeasureT-loop
 loop-holds : tie.Need-loop-holds Inv-loop μ-loop
 loop-holds c = (omega arith, refl, lanes-none _ _)
 
-sub-loop : tie.Need-sub-loop Inv-loop μ-loop
-sub-loop c = omega arith
-
-add-e : tie.Need-add-e Inv-loop μ-loop
-add-e c = omega arith
-
-mul-eight-products : tie.Need-mul-eight-products Inv-loop μ-loop
-mul-eight-products c = omega arith
-
-sub-eight-products : tie.Need-sub-eight-products Inv-loop μ-loop
-sub-eight-products c = omega arith
-
-part-eight-products-start : tie.Need-part-eight-products-start Inv-loop μ-loop
-part-eight-products-start c = omega arith
-
-part-eight-products-end : tie.Need-part-eight-products-end Inv-loop μ-loop
-part-eight-products-end c = omega arith
-
-mul-eight-products-2 : tie.Need-mul-eight-products-2 Inv-loop μ-loop
-mul-eight-products-2 c = omega arith
-
-sub-eight-products-2 : tie.Need-sub-eight-products-2 Inv-loop μ-loop
-sub-eight-products-2 c = omega arith
-
-part-eight-products-start-2 : tie.Need-part-eight-products-start-2 Inv-loop μ-loop
-part-eight-products-start-2 c = omega arith
-
-part-eight-products-end-2 : tie.Need-part-eight-products-end-2 Inv-loop μ-loop
-part-eight-products-end-2 c = omega arith
-
-eight-products-requires : tie.Need-eight-products-requires Inv-loop μ-loop
-eight-products-requires c κs = omega arith
-
-loop-less : tie.Need-loop-less Inv-loop μ-loop
-loop-less c = omega arith
-
 loop-again : tie.Need-loop-again Inv-loop μ-loop
 loop-again c =
     let b = c .before .before .before .before in
@@ -65,33 +29,6 @@ returns c =
     let b = c .before .before in
     let a = b .before .before .before .args in
     b .loop .inv .2 ∙ ap (lanesFrom (a .l) (products (a .x .now) (a .w .now))) (omega arith)
-
-mul-eight-products-3 : tie.Need-mul-eight-products-3 Inv-loop μ-loop
-mul-eight-products-3 c = omega arith
-
-sub-eight-products-3 : tie.Need-sub-eight-products-3 Inv-loop μ-loop
-sub-eight-products-3 c = omega arith
-
-part-eight-products-start-3 : tie.Need-part-eight-products-start-3 Inv-loop μ-loop
-part-eight-products-start-3 c = omega arith
-
-part-eight-products-end-3 : tie.Need-part-eight-products-end-3 Inv-loop μ-loop
-part-eight-products-end-3 c = omega arith
-
-mul-eight-products-4 : tie.Need-mul-eight-products-4 Inv-loop μ-loop
-mul-eight-products-4 c = omega arith
-
-sub-eight-products-4 : tie.Need-sub-eight-products-4 Inv-loop μ-loop
-sub-eight-products-4 c = omega arith
-
-part-eight-products-start-4 : tie.Need-part-eight-products-start-4 Inv-loop μ-loop
-part-eight-products-start-4 c = omega arith
-
-part-eight-products-end-4 : tie.Need-part-eight-products-end-4 Inv-loop μ-loop
-part-eight-products-end-4 c = omega arith
-
-eight-products-requires-2 : tie.Need-eight-products-requires-2 Inv-loop μ-loop
-eight-products-requires-2 c κs = omega arith
 
 returns-2 : tie.Need-returns-2 Inv-loop μ-loop
 returns-2 c =
@@ -107,27 +44,27 @@ add-products-spec =
     Inv-loop
     μ-loop
     loop-holds
-    sub-loop
-    add-e
-    mul-eight-products
-    sub-eight-products
-    part-eight-products-start
-    part-eight-products-end
-    mul-eight-products-2
-    sub-eight-products-2
-    part-eight-products-start-2
-    part-eight-products-end-2
-    eight-products-requires
-    loop-less
+    (λ c. omega arith)
+    (λ c. omega arith)
+    (λ c. omega arith)
+    (λ c. omega arith)
+    (λ c. omega arith)
+    (λ c. omega arith)
+    (λ c. omega arith)
+    (λ c. omega arith)
+    (λ c. omega arith)
+    (λ c. omega arith)
+    (λ c κs. omega arith)
+    (λ c. omega arith)
     loop-again
     returns
-    mul-eight-products-3
-    sub-eight-products-3
-    part-eight-products-start-3
-    part-eight-products-end-3
-    mul-eight-products-4
-    sub-eight-products-4
-    part-eight-products-start-4
-    part-eight-products-end-4
-    eight-products-requires-2
+    (λ c. omega arith)
+    (λ c. omega arith)
+    (λ c. omega arith)
+    (λ c. omega arith)
+    (λ c. omega arith)
+    (λ c. omega arith)
+    (λ c. omega arith)
+    (λ c. omega arith)
+    (λ c κs. omega arith)
     returns-2)

@@ -16,12 +16,9 @@ returns-2 : tie.Need-returns-2
 unfolding chunkSays given
 returns-2 c = simp (le-ltb _ _ (c .before .if1 .left), lt-ltb _ _ (c .if2 .taken))
 
-chunk-dot-requires : tie.Need-chunk-dot-requires
-chunk-dot-requires c κs = search needs
-
 returns-3 : tie.Need-returns-3
 unfolding chunkSays given
 returns-3 c = simp (le-ltb _ _ (c .before .before .if1 .left), le-ltb _ _ (c .before .if2 .left)) (ap value (c .chunk-dot .ensures))
 
 pub canonical-chunk-spec : {M : Type 1} → statement M
-canonical-chunk-spec = tie.close (tie.spec returns returns-2 chunk-dot-requires returns-3)
+canonical-chunk-spec = tie.close (tie.spec returns returns-2 (λ c κs. search needs) returns-3)

@@ -6,15 +6,9 @@ use Rattle.sums_lanes.specs.Lanes.{lanes, chunkSum}
 use Rattle.sums_lanes.proofs.lanes.chunk_dot.Statement.{statement}
 use Rattle.sums_lanes.proofs.lanes.chunk_dot.Tie as tie
 
-add-products-requires : tie.Need-add-products-requires
-add-products-requires c κs = search needs
-
-tree8-requires : tie.Need-tree8-requires
-tree8-requires c κs = search needs
-
 returns : tie.Need-returns
 unfolding chunkSum lanes
 returns c = c .tree8 .ensures ∙ ap tree (c .before .add-products .ensures)
 
 pub chunk-dot-spec : {M : Type 1} → statement M
-chunk-dot-spec = tie.close (tie.spec add-products-requires tree8-requires returns)
+chunk-dot-spec = tie.close (tie.spec (λ c κs. search needs) (λ c κs. search needs) returns)

@@ -6,15 +6,9 @@ use Rattle.sums_lanes.specs.Lanes.{lanes, chunkSum}
 use Rattle.sums_lanes.proofs.lanes.chunk_total.Statement.{statement}
 use Rattle.sums_lanes.proofs.lanes.chunk_total.Tie as tie
 
-add-values-requires : tie.Need-add-values-requires
-add-values-requires c κs = search needs
-
-tree8-requires : tie.Need-tree8-requires
-tree8-requires c κs = search needs
-
 returns : tie.Need-returns
 unfolding chunkSum lanes
 returns c = c .tree8 .ensures ∙ ap tree (c .before .add-values .ensures)
 
 pub chunk-total-spec : {M : Type 1} → statement M
-chunk-total-spec = tie.close (tie.spec add-values-requires tree8-requires returns)
+chunk-total-spec = tie.close (tie.spec (λ c κs. search needs) (λ c κs. search needs) returns)

@@ -37,9 +37,6 @@ loop-again c =
       rw (r .ensures .0) (underway-turn d (l .part) (r .last .0) (l .len) (l .inv .1) (omega arith) (r .ensures .1) (l .inv .3)),
     )
 
-slice-read-result : tie.Need-slice-read-result Inv-loop μ-loop
-slice-read-result c = omega arith
-
 same-length : tie.Need-same-length Inv-loop μ-loop
 same-length c = c .before .before .loop .inv .2
 
@@ -61,6 +58,6 @@ canonical-combine-spec =
     round-requires
     loop-less
     loop-again
-    slice-read-result
+    (λ c. omega arith)
     same-length
     returns-2)

@@ -17,39 +17,6 @@ abbrev μ-loop : tie.MeasureT-loop
 loop-holds : tie.Need-loop-holds Inv-loop μ-loop
 loop-holds c = (omega arith, filling-start (sumAt (c .args .part .now) (c .args .len)) (c .args .part .now) _ refl)
 
-mul-part : tie.Need-mul-part Inv-loop μ-loop
-mul-part c = omega arith
-
-mul-part-2 : tie.Need-mul-part-2 Inv-loop μ-loop
-mul-part-2 c = omega arith
-
-slice-read-part : tie.Need-slice-read-part Inv-loop μ-loop
-slice-read-part c = omega arith
-
-mul-part-3 : tie.Need-mul-part-3 Inv-loop μ-loop
-mul-part-3 c = omega arith
-
-add-part : tie.Need-add-part Inv-loop μ-loop
-add-part c = omega arith
-
-mul-part-4 : tie.Need-mul-part-4 Inv-loop μ-loop
-mul-part-4 c = omega arith
-
-slice-read-part-2 : tie.Need-slice-read-part-2 Inv-loop μ-loop
-slice-read-part-2 c = omega arith
-
-mul-part-5 : tie.Need-mul-part-5 Inv-loop μ-loop
-mul-part-5 c = omega arith
-
-slice-write-part : tie.Need-slice-write-part Inv-loop μ-loop
-slice-write-part c = omega arith
-
-add-t : tie.Need-add-t Inv-loop μ-loop
-add-t c = omega arith
-
-loop-less : tie.Need-loop-less Inv-loop μ-loop
-loop-less c = omega arith
-
 loop-again : tie.Need-loop-again Inv-loop μ-loop
 loop-again c =
     let b = c .before .before .before in
@@ -58,27 +25,6 @@ loop-again c =
     let l = b .loop in
     let v = round-pair d (a .len) (b .before .pre) (l .t) (l .part) (omega arith) (l .inv .1 .0) in
     (omega arith, filling-more (sumAt d (a .len)) d _ (l .part) (l .t) _ refl (l .inv .1) (omega arith) v)
-
-mul-if1 : tie.Need-mul-if1 Inv-loop μ-loop
-mul-if1 c = omega arith
-
-mul-part-6 : tie.Need-mul-part-6 Inv-loop μ-loop
-mul-part-6 c = omega arith
-
-mul-part-7 : tie.Need-mul-part-7 Inv-loop μ-loop
-mul-part-7 c = omega arith
-
-slice-read-part-3 : tie.Need-slice-read-part-3 Inv-loop μ-loop
-slice-read-part-3 c = omega arith
-
-mul-part-8 : tie.Need-mul-part-8 Inv-loop μ-loop
-mul-part-8 c = omega arith
-
-slice-write-part-2 : tie.Need-slice-write-part-2 Inv-loop μ-loop
-slice-write-part-2 c = omega arith
-
-add-result : tie.Need-add-result Inv-loop μ-loop
-add-result c = omega arith
 
 same-length : tie.Need-same-length Inv-loop μ-loop
 same-length c = simp length-set (c .before .before .before .loop .inv .1 .2)
@@ -110,25 +56,25 @@ round-spec =
     Inv-loop
     μ-loop
     loop-holds
-    mul-part
-    mul-part-2
-    slice-read-part
-    mul-part-3
-    add-part
-    mul-part-4
-    slice-read-part-2
-    mul-part-5
-    slice-write-part
-    add-t
-    loop-less
+    (λ c. omega arith)
+    (λ c. omega arith)
+    (λ c. omega arith)
+    (λ c. omega arith)
+    (λ c. omega arith)
+    (λ c. omega arith)
+    (λ c. omega arith)
+    (λ c. omega arith)
+    (λ c. omega arith)
+    (λ c. omega arith)
+    (λ c. omega arith)
     loop-again
-    mul-if1
-    mul-part-6
-    mul-part-7
-    slice-read-part-3
-    mul-part-8
-    slice-write-part-2
-    add-result
+    (λ c. omega arith)
+    (λ c. omega arith)
+    (λ c. omega arith)
+    (λ c. omega arith)
+    (λ c. omega arith)
+    (λ c. omega arith)
+    (λ c. omega arith)
     same-length
     returns
     same-length-2
