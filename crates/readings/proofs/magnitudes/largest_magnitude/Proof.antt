@@ -15,7 +15,7 @@ larger-of-requires c κs = search needs
 returns : tie.Need-returns
 returns c =
     let e = c .before .before in
-    c .larger-of .ensures ∙ rw (e .ends-of .ensures .0, e .ends-of .ensures .1) (larger-end (now (e .before .before .args .x)) (e .before .shared-slice-known .given))
+    c .larger-of .ensures ∙ simp (e .ends-of .ensures .0, e .ends-of .ensures .1) (larger-end (now (e .before .before .args .x)) (e .before .shared-slice-known .given))
 
 pub largest-magnitude-spec : {M : Type 1} → statement M
 largest-magnitude-spec = tie.close (tie.spec ends-of-requires larger-of-requires returns)
