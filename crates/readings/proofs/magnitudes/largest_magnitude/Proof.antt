@@ -9,7 +9,7 @@ use Rattle.readings.proofs.magnitudes.largest_magnitude.Tie as tie
 returns : tie.Need-returns
 returns c =
     let e = c .before .before in
-    c .larger-of .ensures ∙ rw (e .ends-of .ensures .0, e .ends-of .ensures .1) (larger-end (now (e .before .before .args .x)) (e .before .shared-slice-known .given))
+    c .larger-of .ensures ∙ simp (e .ends-of .ensures .0, e .ends-of .ensures .1) (larger-end (now (e .before .before .args .x)) (e .before .shared-slice-known .given))
 
 pub largest-magnitude-spec : {M : Type 1} → statement M
 largest-magnitude-spec = tie.close (tie.spec (λ c κs. search needs) (λ c κs. search needs) returns)
