@@ -32,3 +32,16 @@ pub fn decode_32(format: Format32, block: &[u8], out: &mut [f32])
         scale_run(&q[at..end], s, &mut out[at..end]);
     }
 }
+
+// One Q8_0 block's 32 values, for a loop over such blocks alone. The whole numbers go through an array, so that all are
+// read before a value is written.
+pub fn decode_q8_0(block: &[u8], out: &mut [f32])
+    requires { ⌜ (length (now block) ≡ 34) × (length (now out) ≡ 32) ⌝ }
+    ensures { λ _. ⌜ now (out .exit) ≡ table (value32 Format32.Q80 (now (block .entry))) 32 ⌝ }
+{
+    let s = halves::f16_to_f32(numbers::le_u16(block[0], block[1]));
+    let q = layouts::quants_32(Format32::Q80, block);
+    for k in 0..32usize {
+        out[k] = s * q[k] as f32;
+    }
+}

@@ -1,4 +1,5 @@
 // The block decoders: every block's values, each block's in its own places in the middle of the output.
+use crate::q8_0::decode_q8_0_blocks;
 use decoded_blocks::decode_32;
 use decoded_blocks::decode_k;
 use layouts::Format;
@@ -28,8 +29,8 @@ fn decode_block(format: Format, block: &[u8], out: &mut [f32])
     }
 }
 
-// The values of the whole blocks of `bytes`, at the front of the output.
-pub fn decode_blocks(format: Format, bytes: &[u8], out: &mut [f32])
+// The values of the whole blocks of `bytes`, at the front of the output, whatever their format.
+fn decode_each(format: Format, bytes: &[u8], out: &mut [f32])
     requires { ⌜ valuesOf format (length (now bytes)) ≤ length (now out) ⌝ }
     ensures { λ _. ⌜ now (out .exit)
         ≡ filled (weightAt format (now (bytes .entry))) (now (out .entry))
@@ -47,6 +48,23 @@ pub fn decode_blocks(format: Format, bytes: &[u8], out: &mut [f32])
         decode_block(format, &bytes[from..to], &mut out[at..end]);
         b += 1;
     }
+}
+
+// The same, but Q8_0's blocks have a loop of their own: in the loop for any format the compiler does not widen their
+// bytes straight from the block.
+pub fn decode_blocks(format: Format, bytes: &[u8], out: &mut [f32])
+    requires { ⌜ valuesOf format (length (now bytes)) ≤ length (now out) ⌝ }
+    ensures { λ _. ⌜ now (out .exit)
+        ≡ filled (weightAt format (now (bytes .entry))) (now (out .entry))
+        (valuesOf format (length (now (bytes .entry)))) ⌝ }
+{
+    if let Format::Of32(f) = format {
+        if let Format32::Q80 = f {
+            decode_q8_0_blocks(bytes, out);
+            return;
+        }
+    }
+    decode_each(format, bytes, out);
 }
 
 // Why a decoder of n bytes into `room` places refuses.

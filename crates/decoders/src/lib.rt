@@ -1,6 +1,7 @@
 // The block decoders: packed blocks become floats, all of them, or a row that may start and end inside a block.
 mod blocks;
 mod decoded_row;
+mod q8_0;
 
 pub use blocks::decode_blocks;
 pub use blocks::dequantize_q4_0;

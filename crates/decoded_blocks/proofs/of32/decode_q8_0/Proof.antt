@@ -1,0 +1,110 @@
+-- `of32::decode_q8_0` meets its contract: the places are filled in turn. Assumes nothing.
+use mathlib.Core.Path.{_≡_, sym, ap, _∙_}
+use Prim.Native.Nat.{ℕ, _-_}
+use mathlib.Core.List.{List}
+use lib.IntN.{ℤ, pos}
+use lib.ListN.{getD}
+use lib.Ieee.{Float, binary32, mul, ofInt}
+use mir.Syntax.{w8}
+use Rattle.halves.specs.Binary16.{widened}
+use Rattle.numbers.specs.Fields.{le16}
+use Rattle.numbers.proofs.Signed.{read-is}
+use Rattle.memory.proofs.Filled.{Filling, filling-start, filling-more, filling-done, getD-table, table-ext}
+use native.Mathlib.Omega.{arith}
+use borrow.Author.Needs.{needs}
+use Rattle.layouts.specs.Of32.{quant32, value32}
+use Rattle.layouts.specs.declared.format.Format32.the-variants.{Q80}
+use Rattle.decoded_blocks.proofs.of32.decode_q8_0.Statement.{statement}
+use Rattle.decoded_blocks.proofs.of32.decode_q8_0.Tie as tie
+
+-- the value at place i by the scale and the whole numbers
+abbrev at : Float → List ℤ → ℕ → Float
+at s q i = mul binary32 s (ofInt binary32 (getD q i (pos 0)))
+
+abbrev Inv-loop : tie.InvT-loop
+Inv-loop block out₀ s q k₀ out k = Filling (at s q) out₀ 32 out k
+
+abbrev μ-loop : tie.MeasureT-loop
+μ-loop block out₀ s q k₀ out k = 32 - k
+
+shared-slice-read-le-u16 : tie.Need-shared-slice-read-le-u16 Inv-loop μ-loop
+shared-slice-read-le-u16 c = omega arith
+
+shared-slice-read-le-u16-2 : tie.Need-shared-slice-read-le-u16-2 Inv-loop μ-loop
+shared-slice-read-le-u16-2 c = omega arith
+
+le-u16-requires : tie.Need-le-u16-requires Inv-loop μ-loop
+le-u16-requires c κs = search needs
+
+f16-to-f32-requires : tie.Need-f16-to-f32-requires Inv-loop μ-loop
+f16-to-f32-requires c κs = search needs
+
+quants-32-requires : tie.Need-quants-32-requires Inv-loop μ-loop
+quants-32-requires c κs = c .before .before .before .before .before .before .pre .0
+
+loop-holds : tie.Need-loop-holds Inv-loop μ-loop
+loop-holds c =
+    let t = c .before .before .before .before .before .before .before in
+    filling-start (at (c .before .f16-to-f32 .result) (c .quants-32 .result)) (t .args .out .now) 32 (t .pre .1)
+
+array-copy-out-out : tie.Need-array-copy-out-out Inv-loop μ-loop
+array-copy-out-out c = omega arith
+
+int-to-float-out : tie.Need-int-to-float-out Inv-loop μ-loop
+int-to-float-out c = search needs
+
+mul-out : tie.Need-mul-out Inv-loop μ-loop
+mul-out c = omega arith
+
+slice-write-out : tie.Need-slice-write-out Inv-loop μ-loop
+slice-write-out c = omega arith
+
+add-k : tie.Need-add-k Inv-loop μ-loop
+add-k c = omega arith
+
+loop-less : tie.Need-loop-less Inv-loop μ-loop
+loop-less c = omega arith
+
+loop-again : tie.Need-loop-again Inv-loop μ-loop
+loop-again c =
+    let d = c .before .before .before in
+    let t = d .before .before .before .before .before .before .before .before in
+    let q = d .before .quants-32 .result in
+    let s = d .before .before .f16-to-f32 .result in
+    filling-more (at s q) (t .args .out .now) 32 (d .loop .out) (d .loop .k) _ (t .pre .1) (d .loop .inv) (c .before .before .loop-test .taken) (ap (λ (z : ℤ). mul binary32 s (ofInt binary32 z)) (read-is w8 _ (c .before .out .given)))
+
+same-length : tie.Need-same-length Inv-loop μ-loop
+same-length c = c .before .loop .inv .2 ∙ sym (c .before .before .before .before .before .before .before .before .before .pre .1)
+
+returns : tie.Need-returns Inv-loop μ-loop
+returns c =
+    let d = c .before in
+    let t = d .before .before .before .before .before .before .before .before in
+    let q = d .before .quants-32 in
+    let s = d .before .before .f16-to-f32 in
+    let bs = t .args .block .now in
+    let scale : s .result ≡ widened (le16 bs 0) = s .ensures ∙ ap widened (d .before .before .before .le-u16 .ensures) in
+    filling-done (at (s .result) (q .result)) (t .args .out .now) 32 (d .loop .out) (d .loop .k) (t .pre .1) (d .loop .inv) (c .loop-test .left)
+    ∙ table-ext (at (s .result) (q .result)) (value32 Q80 bs) 32 (λ i h. rw (scale, q .ensures, getD-table (quant32 Q80 bs) 32 i (pos 0) h))
+
+pub decode-q8-0-spec : {M : Type 1} → statement M
+decode-q8-0-spec =
+    tie.close
+    (tie.spec
+    Inv-loop
+    μ-loop
+    shared-slice-read-le-u16
+    shared-slice-read-le-u16-2
+    le-u16-requires
+    f16-to-f32-requires
+    quants-32-requires
+    loop-holds
+    array-copy-out-out
+    int-to-float-out
+    mul-out
+    slice-write-out
+    add-k
+    loop-less
+    loop-again
+    same-length
+    returns)
