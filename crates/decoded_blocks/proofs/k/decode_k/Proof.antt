@@ -9,40 +9,22 @@ use Rattle.decoded_blocks.proofs.Runs.{of-laid-out}
 use Rattle.decoded_blocks.proofs.k.decode_k.Statement.{statement}
 use Rattle.decoded_blocks.proofs.k.decode_k.Tie as tie
 
-enum-told : tie.Need-enum-told
-enum-told c = search needs
-
 quants-q4k-requires : tie.Need-quants-q4k-requires
 quants-q4k-requires c κs = c .before .before .before .before .pre .0 ∙ ap bytesK (c .enum-told .given .1)
-
-slice-aggregate-decode-sub-blocks : tie.Need-slice-aggregate-decode-sub-blocks
-slice-aggregate-decode-sub-blocks c = search needs
 
 decode-sub-blocks-requires : tie.Need-decode-sub-blocks-requires
 decode-sub-blocks-requires c κs = let t = c .before .before .before .before .before .before .before in (omega (arith, t .pre .0 ∙ ap bytesK (c .before .before .before .enum-told .given .1)), omega arith, t .pre .1)
 
-enum-told-2 : tie.Need-enum-told-2
-enum-told-2 c = search needs
-
 quants-q6k-requires : tie.Need-quants-q6k-requires
 quants-q6k-requires c κs = c .before .before .before .before .pre .0 ∙ ap bytesK (c .enum-told2 .given .1)
 
-slice-aggregate-decode-runs : tie.Need-slice-aggregate-decode-runs
-slice-aggregate-decode-runs c = search needs
-
 decode-runs-requires : tie.Need-decode-runs-requires
 decode-runs-requires c κs = let t = c .before .before .before .before .before .before .before in (t .pre .0 ∙ ap bytesK (c .before .before .before .enum-told2 .given .1), omega arith, t .pre .1)
-
-same-length : tie.Need-same-length
-same-length c = search needs
 
 returns : tie.Need-returns
 returns c =
     let q = c .before .before .before .before .before in
     c .before .before .decode-sub-blocks .ensures ∙ of-laid-out Q4K _ pos 0 (q .before .enum-told .given .1) (q .quants-q4k .ensures) (λ i. refl)
-
-same-length-2 : tie.Need-same-length-2
-same-length-2 c = search needs
 
 returns-2 : tie.Need-returns-2
 returns-2 c =
@@ -53,15 +35,15 @@ pub decode-k-spec : {M : Type 1} → statement M
 decode-k-spec =
     tie.close
     (tie.spec
-    enum-told
+    (λ c. search needs)
     quants-q4k-requires
-    slice-aggregate-decode-sub-blocks
+    (λ c. search needs)
     decode-sub-blocks-requires
-    enum-told-2
+    (λ c. search needs)
     quants-q6k-requires
-    slice-aggregate-decode-runs
+    (λ c. search needs)
     decode-runs-requires
-    same-length
+    (λ c. search needs)
     returns
-    same-length-2
+    (λ c. search needs)
     returns-2)

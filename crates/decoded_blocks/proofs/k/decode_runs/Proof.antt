@@ -23,56 +23,14 @@ Inv-loop block q out₀ scales e₀ out e = InParts (values block q) out₀ (λ 
 abbrev μ-loop : tie.MeasureT-loop
 μ-loop block q out₀ scales e₀ out e = 16 - e
 
-scales-q6k-requires : tie.Need-scales-q6k-requires Inv-loop μ-loop
-scales-q6k-requires c κs = search needs
-
 loop-holds : tie.Need-loop-holds Inv-loop μ-loop
 loop-holds c = let a = c .before .before .before .args in parts-none (values (a .block .now) (a .q .now)) (a .out .now) (λ r. 16 * r) 16 refl
-
-mul-at : tie.Need-mul-at Inv-loop μ-loop
-mul-at c = omega arith
-
-add-end : tie.Need-add-end Inv-loop μ-loop
-add-end c = omega arith
-
-sub-scale-run : tie.Need-sub-scale-run Inv-loop μ-loop
-sub-scale-run c = omega arith
-
-part-scale-run-start : tie.Need-part-scale-run-start Inv-loop μ-loop
-part-scale-run-start c = omega arith
-
-part-scale-run-end : tie.Need-part-scale-run-end Inv-loop μ-loop
-part-scale-run-end c = omega arith
-
-mul-scale-run : tie.Need-mul-scale-run Inv-loop μ-loop
-mul-scale-run c = omega arith
-
-array-read-scale-run : tie.Need-array-read-scale-run Inv-loop μ-loop
-array-read-scale-run c = omega arith
-
-mul-scale-run-2 : tie.Need-mul-scale-run-2 Inv-loop μ-loop
-mul-scale-run-2 c = omega arith
-
-sub-scale-run-2 : tie.Need-sub-scale-run-2 Inv-loop μ-loop
-sub-scale-run-2 c = omega arith
-
-part-scale-run-start-2 : tie.Need-part-scale-run-start-2 Inv-loop μ-loop
-part-scale-run-start-2 c = omega arith
-
-part-scale-run-end-2 : tie.Need-part-scale-run-end-2 Inv-loop μ-loop
-part-scale-run-end-2 c = omega arith
 
 scale-run-requires : tie.Need-scale-run-requires Inv-loop μ-loop
 scale-run-requires c κs =
     let l = c .before .before .before .loop in
     let t = c .before .before .before .before .before .before .before in
     run-lengths (t .args .q .now) (l .out) 16 (l .e) (t .pre .1) (l .inv .2 ∙ t .pre .2) (omega arith)
-
-add-e : tie.Need-add-e Inv-loop μ-loop
-add-e c = omega arith
-
-loop-less : tie.Need-loop-less Inv-loop μ-loop
-loop-less c = omega arith
 
 loop-again : tie.Need-loop-again Inv-loop μ-loop
 loop-again c =
@@ -101,22 +59,22 @@ decode-runs-spec =
     (tie.spec
     Inv-loop
     μ-loop
-    scales-q6k-requires
+    (λ c κs. search needs)
     loop-holds
-    mul-at
-    add-end
-    sub-scale-run
-    part-scale-run-start
-    part-scale-run-end
-    mul-scale-run
-    array-read-scale-run
-    mul-scale-run-2
-    sub-scale-run-2
-    part-scale-run-start-2
-    part-scale-run-end-2
+    (λ c. omega arith)
+    (λ c. omega arith)
+    (λ c. omega arith)
+    (λ c. omega arith)
+    (λ c. omega arith)
+    (λ c. omega arith)
+    (λ c. omega arith)
+    (λ c. omega arith)
+    (λ c. omega arith)
+    (λ c. omega arith)
+    (λ c. omega arith)
     scale-run-requires
-    add-e
-    loop-less
+    (λ c. omega arith)
+    (λ c. omega arith)
     loop-again
     same-length
     returns)

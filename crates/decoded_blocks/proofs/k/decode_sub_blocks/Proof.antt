@@ -23,65 +23,14 @@ Inv-loop block q out₀ scales minimums e₀ out e = InParts (values block q) ou
 abbrev μ-loop : tie.MeasureT-loop
 μ-loop block q out₀ scales minimums e₀ out e = 16 - e
 
-scales-q4k-requires : tie.Need-scales-q4k-requires Inv-loop μ-loop
-scales-q4k-requires c κs = search needs
-
-minimums-q4k-requires : tie.Need-minimums-q4k-requires Inv-loop μ-loop
-minimums-q4k-requires c κs = search needs
-
 loop-holds : tie.Need-loop-holds Inv-loop μ-loop
 loop-holds c = let a = c .before .before .before .before .before .args in parts-none (values (a .block .now) (a .q .now)) (a .out .now) (λ r. 16 * r) 16 refl
-
-mul-at : tie.Need-mul-at Inv-loop μ-loop
-mul-at c = omega arith
-
-add-end : tie.Need-add-end Inv-loop μ-loop
-add-end c = omega arith
-
-sub-scale-run-less : tie.Need-sub-scale-run-less Inv-loop μ-loop
-sub-scale-run-less c = omega arith
-
-part-scale-run-less-start : tie.Need-part-scale-run-less-start Inv-loop μ-loop
-part-scale-run-less-start c = omega arith
-
-part-scale-run-less-end : tie.Need-part-scale-run-less-end Inv-loop μ-loop
-part-scale-run-less-end c = omega arith
-
-mul-scale-run-less : tie.Need-mul-scale-run-less Inv-loop μ-loop
-mul-scale-run-less c = omega arith
-
-array-read-scale-run-less : tie.Need-array-read-scale-run-less Inv-loop μ-loop
-array-read-scale-run-less c = omega arith
-
-mul-scale-run-less-2 : tie.Need-mul-scale-run-less-2 Inv-loop μ-loop
-mul-scale-run-less-2 c = omega arith
-
-array-read-scale-run-less-2 : tie.Need-array-read-scale-run-less-2 Inv-loop μ-loop
-array-read-scale-run-less-2 c = omega arith
-
-mul-scale-run-less-3 : tie.Need-mul-scale-run-less-3 Inv-loop μ-loop
-mul-scale-run-less-3 c = omega arith
-
-sub-scale-run-less-2 : tie.Need-sub-scale-run-less-2 Inv-loop μ-loop
-sub-scale-run-less-2 c = omega arith
-
-part-scale-run-less-start-2 : tie.Need-part-scale-run-less-start-2 Inv-loop μ-loop
-part-scale-run-less-start-2 c = omega arith
-
-part-scale-run-less-end-2 : tie.Need-part-scale-run-less-end-2 Inv-loop μ-loop
-part-scale-run-less-end-2 c = omega arith
 
 scale-run-less-requires : tie.Need-scale-run-less-requires Inv-loop μ-loop
 scale-run-less-requires c κs =
     let l = c .before .before .before .loop in
     let t = c .before .before .before .before .before .before .before .before .before in
     run-lengths (t .args .q .now) (l .out) 16 (l .e) (t .pre .1) (l .inv .2 ∙ t .pre .2) (omega arith)
-
-add-e : tie.Need-add-e Inv-loop μ-loop
-add-e c = omega arith
-
-loop-less : tie.Need-loop-less Inv-loop μ-loop
-loop-less c = omega arith
 
 loop-again : tie.Need-loop-again Inv-loop μ-loop
 loop-again c =
@@ -111,25 +60,25 @@ decode-sub-blocks-spec =
     (tie.spec
     Inv-loop
     μ-loop
-    scales-q4k-requires
-    minimums-q4k-requires
+    (λ c κs. search needs)
+    (λ c κs. search needs)
     loop-holds
-    mul-at
-    add-end
-    sub-scale-run-less
-    part-scale-run-less-start
-    part-scale-run-less-end
-    mul-scale-run-less
-    array-read-scale-run-less
-    mul-scale-run-less-2
-    array-read-scale-run-less-2
-    mul-scale-run-less-3
-    sub-scale-run-less-2
-    part-scale-run-less-start-2
-    part-scale-run-less-end-2
+    (λ c. omega arith)
+    (λ c. omega arith)
+    (λ c. omega arith)
+    (λ c. omega arith)
+    (λ c. omega arith)
+    (λ c. omega arith)
+    (λ c. omega arith)
+    (λ c. omega arith)
+    (λ c. omega arith)
+    (λ c. omega arith)
+    (λ c. omega arith)
+    (λ c. omega arith)
+    (λ c. omega arith)
     scale-run-less-requires
-    add-e
-    loop-less
+    (λ c. omega arith)
+    (λ c. omega arith)
     loop-again
     same-length
     returns)

@@ -33,44 +33,11 @@ shared-slice-read-le-u16 c = omega (arith, c .before .before .before .pre .0, le
 shared-slice-read-le-u16-2 : tie.Need-shared-slice-read-le-u16-2 Inv-loop μ-loop
 shared-slice-read-le-u16-2 c = omega (arith, c .before .before .before .before .pre .0, least-32 (c .before .before .before .before .args .format))
 
-le-u16-requires : tie.Need-le-u16-requires Inv-loop μ-loop
-le-u16-requires c κs = search needs
-
-f16-to-f32-requires : tie.Need-f16-to-f32-requires Inv-loop μ-loop
-f16-to-f32-requires c κs = search needs
-
 quants-32-requires : tie.Need-quants-32-requires Inv-loop μ-loop
 quants-32-requires c κs = c .before .before .before .before .before .before .pre .0
 
 loop-holds : tie.Need-loop-holds Inv-loop μ-loop
 loop-holds c = parts-none (at (c .before .f16-to-f32 .result) (c .quants-32 .result)) (c .before .before .before .before .before .before .before .args .out .now) (λ r. 16 * r) 2 refl
-
-mul-at : tie.Need-mul-at Inv-loop μ-loop
-mul-at c = omega arith
-
-add-end : tie.Need-add-end Inv-loop μ-loop
-add-end c = omega arith
-
-sub-scale-run : tie.Need-sub-scale-run Inv-loop μ-loop
-sub-scale-run c = omega arith
-
-part-scale-run-start : tie.Need-part-scale-run-start Inv-loop μ-loop
-part-scale-run-start c = omega arith
-
-part-scale-run-end : tie.Need-part-scale-run-end Inv-loop μ-loop
-part-scale-run-end c = omega arith
-
-mul-scale-run : tie.Need-mul-scale-run Inv-loop μ-loop
-mul-scale-run c = omega arith
-
-sub-scale-run-2 : tie.Need-sub-scale-run-2 Inv-loop μ-loop
-sub-scale-run-2 c = omega arith
-
-part-scale-run-start-2 : tie.Need-part-scale-run-start-2 Inv-loop μ-loop
-part-scale-run-start-2 c = omega arith
-
-part-scale-run-end-2 : tie.Need-part-scale-run-end-2 Inv-loop μ-loop
-part-scale-run-end-2 c = omega arith
 
 scale-run-requires : tie.Need-scale-run-requires Inv-loop μ-loop
 scale-run-requires c κs =
@@ -78,12 +45,6 @@ scale-run-requires c κs =
     let t = c .before .before .before .before .before .before .before .before .before .before .before .before in
     let q = c .before .before .before .before .before .quants-32 in
     run-lengths (q .result) (l .out) 2 (l .e) (omega arith) (l .inv .2 ∙ t .pre .1) (omega arith)
-
-add-e : tie.Need-add-e Inv-loop μ-loop
-add-e c = omega arith
-
-loop-less : tie.Need-loop-less Inv-loop μ-loop
-loop-less c = omega arith
 
 loop-again : tie.Need-loop-again Inv-loop μ-loop
 loop-again c =
@@ -118,22 +79,22 @@ decode-32-spec =
     μ-loop
     shared-slice-read-le-u16
     shared-slice-read-le-u16-2
-    le-u16-requires
-    f16-to-f32-requires
+    (λ c κs. search needs)
+    (λ c κs. search needs)
     quants-32-requires
     loop-holds
-    mul-at
-    add-end
-    sub-scale-run
-    part-scale-run-start
-    part-scale-run-end
-    mul-scale-run
-    sub-scale-run-2
-    part-scale-run-start-2
-    part-scale-run-end-2
+    (λ c. omega arith)
+    (λ c. omega arith)
+    (λ c. omega arith)
+    (λ c. omega arith)
+    (λ c. omega arith)
+    (λ c. omega arith)
+    (λ c. omega arith)
+    (λ c. omega arith)
+    (λ c. omega arith)
     scale-run-requires
-    add-e
-    loop-less
+    (λ c. omega arith)
+    (λ c. omega arith)
     loop-again
     same-length
     returns)

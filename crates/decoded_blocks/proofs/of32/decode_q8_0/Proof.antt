@@ -27,18 +27,6 @@ Inv-loop block out₀ s q k₀ out k = Filling (at s q) out₀ 32 out k
 abbrev μ-loop : tie.MeasureT-loop
 μ-loop block out₀ s q k₀ out k = 32 - k
 
-shared-slice-read-le-u16 : tie.Need-shared-slice-read-le-u16 Inv-loop μ-loop
-shared-slice-read-le-u16 c = omega arith
-
-shared-slice-read-le-u16-2 : tie.Need-shared-slice-read-le-u16-2 Inv-loop μ-loop
-shared-slice-read-le-u16-2 c = omega arith
-
-le-u16-requires : tie.Need-le-u16-requires Inv-loop μ-loop
-le-u16-requires c κs = search needs
-
-f16-to-f32-requires : tie.Need-f16-to-f32-requires Inv-loop μ-loop
-f16-to-f32-requires c κs = search needs
-
 quants-32-requires : tie.Need-quants-32-requires Inv-loop μ-loop
 quants-32-requires c κs = c .before .before .before .before .before .before .pre .0
 
@@ -46,24 +34,6 @@ loop-holds : tie.Need-loop-holds Inv-loop μ-loop
 loop-holds c =
     let t = c .before .before .before .before .before .before .before in
     filling-start (at (c .before .f16-to-f32 .result) (c .quants-32 .result)) (t .args .out .now) 32 (t .pre .1)
-
-array-copy-out-out : tie.Need-array-copy-out-out Inv-loop μ-loop
-array-copy-out-out c = omega arith
-
-int-to-float-out : tie.Need-int-to-float-out Inv-loop μ-loop
-int-to-float-out c = search needs
-
-mul-out : tie.Need-mul-out Inv-loop μ-loop
-mul-out c = omega arith
-
-slice-write-out : tie.Need-slice-write-out Inv-loop μ-loop
-slice-write-out c = omega arith
-
-add-k : tie.Need-add-k Inv-loop μ-loop
-add-k c = omega arith
-
-loop-less : tie.Need-loop-less Inv-loop μ-loop
-loop-less c = omega arith
 
 loop-again : tie.Need-loop-again Inv-loop μ-loop
 loop-again c =
@@ -93,18 +63,18 @@ decode-q8-0-spec =
     (tie.spec
     Inv-loop
     μ-loop
-    shared-slice-read-le-u16
-    shared-slice-read-le-u16-2
-    le-u16-requires
-    f16-to-f32-requires
+    (λ c. omega arith)
+    (λ c. omega arith)
+    (λ c κs. search needs)
+    (λ c κs. search needs)
     quants-32-requires
     loop-holds
-    array-copy-out-out
-    int-to-float-out
-    mul-out
-    slice-write-out
-    add-k
-    loop-less
+    (λ c. omega arith)
+    (λ c. search needs)
+    (λ c. omega arith)
+    (λ c. omega arith)
+    (λ c. omega arith)
+    (λ c. omega arith)
     loop-again
     same-length
     returns)

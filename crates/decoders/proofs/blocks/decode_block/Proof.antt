@@ -8,14 +8,8 @@ use Rattle.layouts.specs.declared.format.Format.{Format}
 use Rattle.decoders.proofs.blocks.decode_block.Statement.{statement}
 use Rattle.decoders.proofs.blocks.decode_block.Tie as tie
 
-enum-known-format : tie.Need-enum-known-format
-enum-known-format c = search needs
-
 decode-32-requires : tie.Need-decode-32-requires
 decode-32-requires c κs = (c .before .before .before .before .before .before .pre .0 ∙ ap blockBytes (c .before .before .format .given .1), c .before .before .before .before .before .before .pre .1 ∙ ap blockValues (c .before .before .format .given .1))
-
-enum-known-format-2 : tie.Need-enum-known-format-2
-enum-known-format-2 c = search needs
 
 decode-k-requires : tie.Need-decode-k-requires
 decode-k-requires c κs = (c .before .before .before .before .before .before .pre .0 ∙ ap blockBytes (c .before .before .format2 .given .1), c .before .before .before .before .before .before .pre .1 ∙ ap blockValues (c .before .before .format2 .given .1))
@@ -26,9 +20,6 @@ same-length c = search needs
 returns : tie.Need-returns
 returns c = c .before .before .decode-32 .ensures ∙ ap (λ (f : Format). table (valueIn f (c .before .before .before .before .before .before .before .before .before .args .block .now)) (blockValues f)) (sym (c .before .before .before .before .before .format .given .1))
 
-same-length-2 : tie.Need-same-length-2
-same-length-2 c = search needs
-
 returns-2 : tie.Need-returns-2
 returns-2 c = c .before .before .decode-k .ensures ∙ ap (λ (f : Format). table (valueIn f (c .before .before .before .before .before .before .before .before .before .args .block .now)) (blockValues f)) (sym (c .before .before .before .before .before .format2 .given .1))
 
@@ -36,11 +27,11 @@ pub decode-block-spec : {M : Type 1} → statement M
 decode-block-spec =
     tie.close
     (tie.spec
-    enum-known-format
+    (λ c. search needs)
     decode-32-requires
-    enum-known-format-2
+    (λ c. search needs)
     decode-k-requires
     same-length
     returns
-    same-length-2
+    (λ c. search needs)
     returns-2)

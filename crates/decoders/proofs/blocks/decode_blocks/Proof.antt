@@ -7,12 +7,6 @@ use Rattle.layouts.specs.declared.format.Format32.the-variants.{Q80}
 use Rattle.decoders.proofs.blocks.decode_blocks.Statement.{statement}
 use Rattle.decoders.proofs.blocks.decode_blocks.Tie as tie
 
-enum-known-format : tie.Need-enum-known-format
-enum-known-format c = search needs
-
-enum-told : tie.Need-enum-told
-enum-told c = search needs
-
 -- the format of either loop
 is-q8-0 : (c : tie.After-enum-told) → c .before .before .before .before .before .before .before .args .format ≡ Of32 Q80
 is-q8-0 c = c .before .before .before .format .given .1 ∙ ap Of32 (c .enum-told .given .1)
@@ -29,14 +23,8 @@ same-length c = search needs
 returns : tie.Need-returns
 returns c = rw (is-q8-0 (c .before .before .before .before)) (c .before .before .decode-q8-0-blocks .ensures)
 
-enum-told-2 : tie.Need-enum-told-2
-enum-told-2 c = search needs
-
 decode-each-requires : tie.Need-decode-each-requires
 decode-each-requires c κs = rw (is-told (c .before)) (c .before .before .before .before .pre)
-
-same-length-2 : tie.Need-same-length-2
-same-length-2 c = search needs
 
 returns-2 : tie.Need-returns-2
 returns-2 c = rw (is-told (c .before .before .before .before)) at (c .before .before .decode-each .ensures)
@@ -45,12 +33,12 @@ pub decode-blocks-spec : {M : Type 1} → statement M
 decode-blocks-spec =
     tie.close
     (tie.spec
-    enum-known-format
-    enum-told
+    (λ c. search needs)
+    (λ c. search needs)
     decode-q8-0-blocks-requires
     same-length
     returns
-    enum-told-2
+    (λ c. search needs)
     decode-each-requires
-    same-length-2
+    (λ c. search needs)
     returns-2)

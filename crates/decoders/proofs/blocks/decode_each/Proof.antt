@@ -21,12 +21,6 @@ Inv-loop format bytes out₀ size values count b₀ out b = InParts (weightAt fo
 abbrev μ-loop : tie.MeasureT-loop
 μ-loop format bytes out₀ size values count b₀ out b = count - b
 
-block-bytes-requires : tie.Need-block-bytes-requires Inv-loop μ-loop
-block-bytes-requires c κs = search needs
-
-block-values-requires : tie.Need-block-values-requires Inv-loop μ-loop
-block-values-requires c κs = search needs
-
 div-count : tie.Need-div-count Inv-loop μ-loop
 div-count c = omega (arith, sizes (c .before .before .before .before .args .format), c .before .block-bytes .ensures)
 
@@ -132,8 +126,8 @@ decode-each-spec =
     (tie.spec
     Inv-loop
     μ-loop
-    block-bytes-requires
-    block-values-requires
+    (λ c κs. search needs)
+    (λ c κs. search needs)
     div-count
     loop-holds
     mul-from

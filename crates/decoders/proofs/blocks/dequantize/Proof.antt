@@ -10,18 +10,9 @@ use Rattle.decoders.proofs.Refused.{room-for-values}
 use Rattle.decoders.proofs.blocks.dequantize.Statement.{statement}
 use Rattle.decoders.proofs.blocks.dequantize.Tie as tie
 
-dequantize-refusal-requires : tie.Need-dequantize-refusal-requires
-dequantize-refusal-requires c κs = search needs
-
-enum-known-checked : tie.Need-enum-known-checked
-enum-known-checked c = search needs
-
 returns : tie.Need-returns
 unfolding dequantizeSays
 returns c = refused-out _ _ (c .before .before .before .dequantize-refusal .ensures) (c .before .checked .given .1)
-
-enum-told : tie.Need-enum-told
-enum-told c = search needs
 
 decode-blocks-requires : tie.Need-decode-blocks-requires
 decode-blocks-requires c κs = room-for-values _ _ _ (check-passed (c .before .before .before .dequantize-refusal .ensures) (c .before .enum-told .given .1))
@@ -39,10 +30,10 @@ pub dequantize-spec : {M : Type 1} → statement M
 dequantize-spec =
     tie.close
     (tie.spec
-    dequantize-refusal-requires
-    enum-known-checked
+    (λ c κs. search needs)
+    (λ c. search needs)
     returns
-    enum-told
+    (λ c. search needs)
     decode-blocks-requires
     same-length
     returns-2)

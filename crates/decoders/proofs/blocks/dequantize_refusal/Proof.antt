@@ -9,9 +9,6 @@ use Rattle.layouts.proofs.Sizes.{sizes}
 use Rattle.decoders.proofs.blocks.dequantize_refusal.Statement.{statement}
 use Rattle.decoders.proofs.blocks.dequantize_refusal.Tie as tie
 
-block-bytes-requires : tie.Need-block-bytes-requires
-block-bytes-requires c κs = search needs
-
 returns : tie.Need-returns
 unfolding dequantizeRefusal given
 returns c = simp (lt-ltb _ _ (c .if1 .taken))
@@ -25,9 +22,6 @@ returns-2 c = simp (le-ltb _ _ (c .before .if1 .left), ne-eqb _ _ (rw (c .before
 
 div-if3 : tie.Need-div-if3
 div-if3 c = omega (arith, sizes (c .before .before .before .args .format), c .before .before .block-bytes .ensures)
-
-block-values-requires : tie.Need-block-values-requires
-block-values-requires c κs = search needs
 
 mul-if3 : tie.Need-mul-if3
 mul-if3 c = record { fits = few (c .before .before .before .before .args .n) (c .before .before .before .block-bytes .result) (c .block-values .result) (c .before .before .if1 .left) (omega (arith, sizes (c .before .before .before .before .args .format), c .block-values .ensures)) }
@@ -48,12 +42,12 @@ pub dequantize-refusal-spec : {M : Type 1} → statement M
 dequantize-refusal-spec =
     tie.close
     (tie.spec
-    block-bytes-requires
+    (λ c κs. search needs)
     returns
     rem-if2
     returns-2
     div-if3
-    block-values-requires
+    (λ c κs. search needs)
     mul-if3
     returns-3
     returns-4)

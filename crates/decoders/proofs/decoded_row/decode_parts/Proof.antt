@@ -20,12 +20,6 @@ Inv-loop format w from out₀ size values n at₀ out at = (out ≡ filled (λ i
 abbrev μ-loop : tie.MeasureT-loop
 μ-loop format w from out₀ size values n at₀ out at = n - at
 
-block-bytes-requires : tie.Need-block-bytes-requires Inv-loop μ-loop
-block-bytes-requires c κs = search needs
-
-block-values-requires : tie.Need-block-values-requires Inv-loop μ-loop
-block-values-requires c κs = search needs
-
 loop-holds : tie.Need-loop-holds Inv-loop μ-loop
 loop-holds c = (filled-none _ _, zero-le, refl)
 
@@ -54,14 +48,8 @@ here c =
     let h : place < room / z * v = omega (arith, all, c .loop-test .taken) in
     record { positive = P; inner = mod-lt place P; adds = div-add-mod' place v; stop = within-whole (place / v) z room (div-lt-iff-lt-mul P .1 h) }
 
-add-b : tie.Need-add-b Inv-loop μ-loop
-add-b c = omega arith
-
 div-b : tie.Need-div-b Inv-loop μ-loop
 div-b c = omega (arith, here c .positive)
-
-add-inside : tie.Need-add-inside Inv-loop μ-loop
-add-inside c = omega arith
 
 rem-inside : tie.Need-rem-inside Inv-loop μ-loop
 rem-inside c = omega (arith, here c .positive)
@@ -71,9 +59,6 @@ sub-smaller c = omega (arith, here c .inner)
 
 sub-smaller-2 : tie.Need-sub-smaller-2 Inv-loop μ-loop
 sub-smaller-2 c = omega (arith, c .loop-test .taken)
-
-smaller-requires : tie.Need-smaller-requires Inv-loop μ-loop
-smaller-requires c κs = search needs
 
 -- how many places of it a turn takes: one at least, and no more than there are
 count : (c : tie.After-smaller Inv-loop μ-loop)
@@ -184,16 +169,16 @@ decode-parts-spec =
     (tie.spec
     Inv-loop
     μ-loop
-    block-bytes-requires
-    block-values-requires
+    (λ c κs. search needs)
+    (λ c κs. search needs)
     loop-holds
-    add-b
+    (λ c. omega arith)
     div-b
-    add-inside
+    (λ c. omega arith)
     rem-inside
     sub-smaller
     sub-smaller-2
-    smaller-requires
+    (λ c κs. search needs)
     add-end
     mul-start
     add-stop

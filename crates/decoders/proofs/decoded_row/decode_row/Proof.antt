@@ -13,12 +13,6 @@ use Rattle.decoders.proofs.WholeRows.{row-fits, row-values, row-weights
 use Rattle.decoders.proofs.decoded_row.decode_row.Statement.{statement}
 use Rattle.decoders.proofs.decoded_row.decode_row.Tie as tie
 
-block-bytes-requires : tie.Need-block-bytes-requires
-block-bytes-requires c κs = search needs
-
-block-values-requires : tie.Need-block-values-requires
-block-values-requires c κs = search needs
-
 -- a block has values, and not many
 some : (c : tie.After-block-values) → (0 < c .block-values .result) × (c .block-values .result ≤ 256)
 some c = let s = sizes (c .before .before .before .before .args .format) in (omega (arith, s, c .block-values .ensures), omega (arith, s, c .block-values .ensures))
@@ -82,9 +76,6 @@ decode-blocks-requires c κs =
     let t = e .before .before .before .before .before in
     le-of-eq (row-values (t .args .format) (t .args .w .now) (t .args .from) (length (t .args .out .now)) _ _ (e .before .before .block-bytes .ensures) (e .before .block-values .ensures) (e .if1 .left) (t .pre .0))
 
-same-length-2 : tie.Need-same-length-2
-same-length-2 c = search needs
-
 returns-2 : tie.Need-returns-2
 returns-2 c =
     let e = c .before .before .before .before .before in
@@ -103,8 +94,8 @@ pub decode-row-spec : {M : Type 1} → statement M
 decode-row-spec =
     tie.close
     (tie.spec
-    block-bytes-requires
-    block-values-requires
+    (λ c κs. search needs)
+    (λ c κs. search needs)
     rem-if1
     rem-if1-2
     add-if1
@@ -120,5 +111,5 @@ decode-row-spec =
     part-decode-blocks-start
     part-decode-blocks-end
     decode-blocks-requires
-    same-length-2
+    (λ c. search needs)
     returns-2)

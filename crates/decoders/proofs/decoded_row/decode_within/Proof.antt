@@ -24,9 +24,6 @@ Inv-loop block from out₀ values whole i₀ i-end out i = Filling (λ k. getD w
 abbrev μ-loop : tie.MeasureT-loop
 μ-loop block from out₀ values whole i₀ i-end out i = length out₀ - i
 
-block-values-requires : tie.Need-block-values-requires Inv-loop μ-loop
-block-values-requires c κs = search needs
-
 -- a block's values fit the array, and are as many as its front
 front : (c : tie.After-block-values Inv-loop μ-loop) → length (take (c .block-values .result) (replicate 256 nought)) ≡ c .block-values .result
 front c = length-take-le (c .block-values .result) (replicate 256 nought) (omega (arith, sizes (c .before .before .before .args .format), c .block-values .ensures))
@@ -60,18 +57,6 @@ mul-out c = omega (arith, inside c)
 array-read-out : tie.Need-array-read-out Inv-loop μ-loop
 array-read-out c = omega (arith, inside c)
 
-mul-out-2 : tie.Need-mul-out-2 Inv-loop μ-loop
-mul-out-2 c = omega arith
-
-slice-write-out : tie.Need-slice-write-out Inv-loop μ-loop
-slice-write-out c = omega arith
-
-add-i : tie.Need-add-i Inv-loop μ-loop
-add-i c = omega arith
-
-loop-less : tie.Need-loop-less Inv-loop μ-loop
-loop-less c = omega arith
-
 loop-again : tie.Need-loop-again Inv-loop μ-loop
 loop-again c = let l = c .before .loop in filling-more _ _ _ (l .out) (l .i) _ refl (l .inv) (c .loop-test .taken) refl
 
@@ -104,7 +89,7 @@ decode-within-spec =
     (tie.spec
     Inv-loop
     μ-loop
-    block-values-requires
+    (λ c κs. search needs)
     array-borrow-prefix-whole
     slice-aggregate-decode-blocks
     decode-blocks-requires
@@ -112,10 +97,10 @@ decode-within-spec =
     add-out
     mul-out
     array-read-out
-    mul-out-2
-    slice-write-out
-    add-i
-    loop-less
+    (λ c. omega arith)
+    (λ c. omega arith)
+    (λ c. omega arith)
+    (λ c. omega arith)
     loop-again
     same-length
     returns)

@@ -29,51 +29,12 @@ loop-holds c =
     let a = c .before .before .args in
     parts-none (weightAt q8-0 (a .bytes .now)) (a .out .now) (λ k. k * 32) _ refl
 
-mul-from : tie.Need-mul-from Inv-loop μ-loop
-mul-from c = omega arith
-
-add-to : tie.Need-add-to Inv-loop μ-loop
-add-to c = omega arith
-
-mul-at : tie.Need-mul-at Inv-loop μ-loop
-mul-at c = omega arith
-
-add-end : tie.Need-add-end Inv-loop μ-loop
-add-end c = omega arith
-
-sub-decode-q8-0 : tie.Need-sub-decode-q8-0 Inv-loop μ-loop
-sub-decode-q8-0 c = omega arith
-
-part-decode-q8-0-start : tie.Need-part-decode-q8-0-start Inv-loop μ-loop
-part-decode-q8-0-start c = omega arith
-
-part-decode-q8-0-end : tie.Need-part-decode-q8-0-end Inv-loop μ-loop
-part-decode-q8-0-end c = omega arith
-
-mul-decode-q8-0 : tie.Need-mul-decode-q8-0 Inv-loop μ-loop
-mul-decode-q8-0 c = omega arith
-
-sub-decode-q8-0-2 : tie.Need-sub-decode-q8-0-2 Inv-loop μ-loop
-sub-decode-q8-0-2 c = omega arith
-
-part-decode-q8-0-start-2 : tie.Need-part-decode-q8-0-start-2 Inv-loop μ-loop
-part-decode-q8-0-start-2 c = omega arith
-
-part-decode-q8-0-end-2 : tie.Need-part-decode-q8-0-end-2 Inv-loop μ-loop
-part-decode-q8-0-end-2 c = omega arith
-
 decode-q8-0-requires : tie.Need-decode-q8-0-requires Inv-loop μ-loop
 decode-q8-0-requires c κs =
     let l = c .before .before .before .loop in
     let a = c .before .before .before .before .before .before .args in
     let room : l .b * 32 + 32 ≤ length (l .out) = omega (arith, l .inv .2) in
     (part-length (a .bytes .now) (l .b * 34) 34 (l .b * 34 + 34) refl (omega arith), part-length (l .out) (l .b * 32) 32 (l .b * 32 + 32) refl room)
-
-add-b : tie.Need-add-b Inv-loop μ-loop
-add-b c = omega arith
-
-loop-less : tie.Need-loop-less Inv-loop μ-loop
-loop-less c = omega arith
 
 loop-again : tie.Need-loop-again Inv-loop μ-loop
 loop-again c =
@@ -102,20 +63,20 @@ decode-q8-0-blocks-spec =
     Inv-loop
     μ-loop
     loop-holds
-    mul-from
-    add-to
-    mul-at
-    add-end
-    sub-decode-q8-0
-    part-decode-q8-0-start
-    part-decode-q8-0-end
-    mul-decode-q8-0
-    sub-decode-q8-0-2
-    part-decode-q8-0-start-2
-    part-decode-q8-0-end-2
+    (λ c. omega arith)
+    (λ c. omega arith)
+    (λ c. omega arith)
+    (λ c. omega arith)
+    (λ c. omega arith)
+    (λ c. omega arith)
+    (λ c. omega arith)
+    (λ c. omega arith)
+    (λ c. omega arith)
+    (λ c. omega arith)
+    (λ c. omega arith)
     decode-q8-0-requires
-    add-b
-    loop-less
+    (λ c. omega arith)
+    (λ c. omega arith)
     loop-again
     same-length
     returns)

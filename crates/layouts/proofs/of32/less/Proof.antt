@@ -4,12 +4,6 @@ use Rattle.layouts.proofs.Small.{difference-fits, difference-is}
 use Rattle.layouts.proofs.of32.less.Statement.{statement}
 use Rattle.layouts.proofs.of32.less.Tie as tie
 
-cast-result : tie.Need-cast-result
-cast-result c = omega arith
-
-cast-result-2 : tie.Need-cast-result-2
-cast-result-2 c = omega arith
-
 sub-result : tie.Need-sub-result
 sub-result c = difference-fits (c .args .n) (c .args .k) (omega arith) (omega arith)
 
@@ -20,7 +14,7 @@ pub less-spec : {M : Type 1} → statement M
 less-spec =
     tie.close
     (tie.spec
-    cast-result
-    cast-result-2
+    (λ c. omega arith)
+    (λ c. omega arith)
     sub-result
     returns)

@@ -8,20 +8,11 @@ use Rattle.layouts.specs.declared.format.Format32.{Format32}
 use Rattle.layouts.proofs.of32.quants_32.Statement.{statement}
 use Rattle.layouts.proofs.of32.quants_32.Tie as tie
 
-enum-told : tie.Need-enum-told
-enum-told c = search needs
-
 quants-q4-0-requires : tie.Need-quants-q4-0-requires
 quants-q4-0-requires c κs = c .before .before .before .pre ∙ ap bytes32 (c .enum-told .given .1)
 
-enum-told-2 : tie.Need-enum-told-2
-enum-told-2 c = search needs
-
 quants-q5-0-requires : tie.Need-quants-q5-0-requires
 quants-q5-0-requires c κs = c .before .before .before .pre ∙ ap bytes32 (c .enum-told2 .given .1)
-
-enum-told-3 : tie.Need-enum-told-3
-enum-told-3 c = search needs
 
 quants-q8-0-requires : tie.Need-quants-q8-0-requires
 quants-q8-0-requires c κs = c .before .before .before .pre ∙ ap bytes32 (c .enum-told3 .given .1)
@@ -39,11 +30,11 @@ pub quants-32-spec : {M : Type 1} → statement M
 quants-32-spec =
     tie.close
     (tie.spec
-    enum-told
+    (λ c. search needs)
     quants-q4-0-requires
-    enum-told-2
+    (λ c. search needs)
     quants-q5-0-requires
-    enum-told-3
+    (λ c. search needs)
     quants-q8-0-requires
     returns
     returns-2

@@ -18,44 +18,14 @@ Inv-loop block q₀ k₀ k-end q k = Pairs (λ i. i / 2) (quant32 Q40 block) (po
 abbrev μ-loop : tie.MeasureT-loop
 μ-loop block q₀ k₀ k-end q k = 16 - k
 
-sub-k-end : tie.Need-sub-k-end Inv-loop μ-loop
-sub-k-end c = omega arith
-
 loop-holds : tie.Need-loop-holds Inv-loop μ-loop
 loop-holds c = pairs-none (λ i. i / 2) (quant32 Q40 (c .before .args .block .now)) (pos 0) (replicate 32 (pos 0)) refl
-
-add-b : tie.Need-add-b Inv-loop μ-loop
-add-b c = omega arith
-
-shared-slice-read-b : tie.Need-shared-slice-read-b Inv-loop μ-loop
-shared-slice-read-b c = omega arith
 
 less-requires : tie.Need-less-requires Inv-loop μ-loop
 less-requires c κs = omega arith
 
-mul-q : tie.Need-mul-q Inv-loop μ-loop
-mul-q c = omega arith
-
-array-set-from-q : tie.Need-array-set-from-q Inv-loop μ-loop
-array-set-from-q c = omega arith
-
 less-requires-2 : tie.Need-less-requires-2 Inv-loop μ-loop
 less-requires-2 c κs = omega (arith, c .before .shared-slice-known2 .given (2 + c .before .before .before .loop .k))
-
-mul-q-2 : tie.Need-mul-q-2 Inv-loop μ-loop
-mul-q-2 c = omega arith
-
-add-q : tie.Need-add-q Inv-loop μ-loop
-add-q c = omega arith
-
-array-set-from-q-2 : tie.Need-array-set-from-q-2 Inv-loop μ-loop
-array-set-from-q-2 c = omega arith
-
-add-k : tie.Need-add-k Inv-loop μ-loop
-add-k c = omega arith
-
-loop-less : tie.Need-loop-less Inv-loop μ-loop
-loop-less c = omega arith
 
 loop-again : tie.Need-loop-again Inv-loop μ-loop
 loop-again c =
@@ -76,18 +46,18 @@ quants-q4-0-spec =
     (tie.spec
     Inv-loop
     μ-loop
-    sub-k-end
+    (λ c. omega arith)
     loop-holds
-    add-b
-    shared-slice-read-b
+    (λ c. omega arith)
+    (λ c. omega arith)
     less-requires
-    mul-q
-    array-set-from-q
+    (λ c. omega arith)
+    (λ c. omega arith)
     less-requires-2
-    mul-q-2
-    add-q
-    array-set-from-q-2
-    add-k
-    loop-less
+    (λ c. omega arith)
+    (λ c. omega arith)
+    (λ c. omega arith)
+    (λ c. omega arith)
+    (λ c. omega arith)
     loop-again
     returns)

@@ -20,65 +20,11 @@ Inv-loop block high q₀ k₀ q k = Pairs (λ i. i % 16) (quant32 Q50 block) (po
 abbrev μ-loop : tie.MeasureT-loop
 μ-loop block high q₀ k₀ q k = 16 - k
 
-shared-slice-read-le-u32 : tie.Need-shared-slice-read-le-u32 Inv-loop μ-loop
-shared-slice-read-le-u32 c = omega arith
-
-shared-slice-read-le-u32-2 : tie.Need-shared-slice-read-le-u32-2 Inv-loop μ-loop
-shared-slice-read-le-u32-2 c = omega arith
-
-shared-slice-read-le-u32-3 : tie.Need-shared-slice-read-le-u32-3 Inv-loop μ-loop
-shared-slice-read-le-u32-3 c = omega arith
-
-shared-slice-read-le-u32-4 : tie.Need-shared-slice-read-le-u32-4 Inv-loop μ-loop
-shared-slice-read-le-u32-4 c = omega arith
-
-le-u32-requires : tie.Need-le-u32-requires Inv-loop μ-loop
-le-u32-requires c κs = search needs
-
 loop-holds : tie.Need-loop-holds Inv-loop μ-loop
 loop-holds c = pairs-none (λ i. i % 16) (quant32 Q50 (c .before .before .before .before .before .before .args .block .now)) (pos 0) (replicate 32 (pos 0)) refl
 
-add-b : tie.Need-add-b Inv-loop μ-loop
-add-b c = omega arith
-
-shared-slice-read-b : tie.Need-shared-slice-read-b Inv-loop μ-loop
-shared-slice-read-b c = omega arith
-
-cast-with-high-bit : tie.Need-cast-with-high-bit Inv-loop μ-loop
-cast-with-high-bit c = omega arith
-
-shr-with-high-bit : tie.Need-shr-with-high-bit Inv-loop μ-loop
-shr-with-high-bit c = omega arith
-
-with-high-bit-requires : tie.Need-with-high-bit-requires Inv-loop μ-loop
-with-high-bit-requires c κs = omega arith
-
-array-set-from-q : tie.Need-array-set-from-q Inv-loop μ-loop
-array-set-from-q c = omega arith
-
-add-with-high-bit : tie.Need-add-with-high-bit Inv-loop μ-loop
-add-with-high-bit c = omega arith
-
-cast-with-high-bit-2 : tie.Need-cast-with-high-bit-2 Inv-loop μ-loop
-cast-with-high-bit-2 c = omega arith
-
-shr-with-high-bit-2 : tie.Need-shr-with-high-bit-2 Inv-loop μ-loop
-shr-with-high-bit-2 c = omega arith
-
 with-high-bit-requires-2 : tie.Need-with-high-bit-requires-2 Inv-loop μ-loop
 with-high-bit-requires-2 c κs = omega (arith, c .before .shared-slice-known6 .given (6 + c .before .before .before .loop .k))
-
-add-q : tie.Need-add-q Inv-loop μ-loop
-add-q c = omega arith
-
-array-set-from-q-2 : tie.Need-array-set-from-q-2 Inv-loop μ-loop
-array-set-from-q-2 c = omega arith
-
-add-k : tie.Need-add-k Inv-loop μ-loop
-add-k c = omega arith
-
-loop-less : tie.Need-loop-less Inv-loop μ-loop
-loop-less c = omega arith
 
 loop-again : tie.Need-loop-again Inv-loop μ-loop
 loop-again c =
@@ -102,25 +48,25 @@ quants-q5-0-spec =
     (tie.spec
     Inv-loop
     μ-loop
-    shared-slice-read-le-u32
-    shared-slice-read-le-u32-2
-    shared-slice-read-le-u32-3
-    shared-slice-read-le-u32-4
-    le-u32-requires
+    (λ c. omega arith)
+    (λ c. omega arith)
+    (λ c. omega arith)
+    (λ c. omega arith)
+    (λ c κs. search needs)
     loop-holds
-    add-b
-    shared-slice-read-b
-    cast-with-high-bit
-    shr-with-high-bit
-    with-high-bit-requires
-    array-set-from-q
-    add-with-high-bit
-    cast-with-high-bit-2
-    shr-with-high-bit-2
+    (λ c. omega arith)
+    (λ c. omega arith)
+    (λ c. omega arith)
+    (λ c. omega arith)
+    (λ c κs. omega arith)
+    (λ c. omega arith)
+    (λ c. omega arith)
+    (λ c. omega arith)
+    (λ c. omega arith)
     with-high-bit-requires-2
-    add-q
-    array-set-from-q-2
-    add-k
-    loop-less
+    (λ c. omega arith)
+    (λ c. omega arith)
+    (λ c. omega arith)
+    (λ c. omega arith)
     loop-again
     returns)

@@ -22,24 +22,6 @@ abbrev μ-loop : tie.MeasureT-loop
 loop-holds : tie.Need-loop-holds Inv-loop μ-loop
 loop-holds c = filling-start (quant32 Q80 (c .before .args .block .now)) (replicate 32 (pos 0)) 32 refl
 
-add-signed-byte : tie.Need-add-signed-byte Inv-loop μ-loop
-add-signed-byte c = omega arith
-
-shared-slice-read-signed-byte : tie.Need-shared-slice-read-signed-byte Inv-loop μ-loop
-shared-slice-read-signed-byte c = omega arith
-
-signed-byte-requires : tie.Need-signed-byte-requires Inv-loop μ-loop
-signed-byte-requires c κs = search needs
-
-array-set-from-q : tie.Need-array-set-from-q Inv-loop μ-loop
-array-set-from-q c = omega arith
-
-add-k : tie.Need-add-k Inv-loop μ-loop
-add-k c = omega arith
-
-loop-less : tie.Need-loop-less Inv-loop μ-loop
-loop-less c = omega arith
-
 loop-again : tie.Need-loop-again Inv-loop μ-loop
 unfolding quant32
 loop-again c =
@@ -58,11 +40,11 @@ quants-q8-0-spec =
     Inv-loop
     μ-loop
     loop-holds
-    add-signed-byte
-    shared-slice-read-signed-byte
-    signed-byte-requires
-    array-set-from-q
-    add-k
-    loop-less
+    (λ c. omega arith)
+    (λ c. omega arith)
+    (λ c κs. search needs)
+    (λ c. omega arith)
+    (λ c. omega arith)
+    (λ c. omega arith)
     loop-again
     returns)
