@@ -207,8 +207,8 @@ uint32_t jambharrow_dot_q4k_q8_block(const uint8_t *w, size_t w_len,
 
 /* The dot of the Q6_K block at the front of w and an activation block: (w's d * d) * B, where B is
  * the sum of scale * (quant of w - 32) * quant over the places below n, above 256 taken as 256. The
- * sums are not looked at, nor are bytes behind the block. It refuses with JAMBHARROW_WEIGHTS_SHORT
- * where there are fewer than 210 bytes. */
+ * sums are not looked at, nor are bytes behind the block. It needs at most 2,048 bytes of stack. It
+ * refuses with JAMBHARROW_WEIGHTS_SHORT where there are fewer than 210 bytes. */
 uint32_t jambharrow_dot_q6k_q8_block(const uint8_t *w, size_t w_len,
                                      float d, const int8_t qs[256], const int32_t bsums[8],
                                      size_t n, float *value);
