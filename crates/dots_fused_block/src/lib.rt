@@ -1,5 +1,5 @@
-// A packed block times its readings: each term goes to its lane, and no decoded value is stored but for a block of which
-// only the first places count.
+// A packed block times its readings: each term goes to its lane, and no decoded value is stored, but for a block that
+// counts with its first places alone.
 mod block;
 mod runs;
 mod sub_blocks;

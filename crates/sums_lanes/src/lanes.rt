@@ -24,8 +24,8 @@ fn eight_products(l: [f32; 8], x: &[f32], w: &[f32]) -> [f32; 8]
     out
 }
 
-// The lanes `l` after the products of x and w, the first of which is for lane 0. Where eights are all there is the lanes
-// stay in registers to the end.
+// The lanes `l` after the products of x and w, the first of which is for lane 0. Where eights are all there is, the
+// lanes stay in registers to the end.
 pub fn add_products(l: [f32; 8], x: &[f32], w: &[f32]) -> [f32; 8]
     requires { ⌜ length (now x) ≤ length (now w) ⌝ }
     ensures { λ r. ⌜ r ≡ lanesFrom l (products (now (x .entry)) (now (w .entry))) (length (now (x .entry))) ⌝ }
