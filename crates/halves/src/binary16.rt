@@ -13,18 +13,14 @@ fn normal(sign: u32, exp: u32, digits: u32) -> f32
     f32::from_bits(sign * 0x8000_0000 + exp * 0x80_0000 + (digits - 1024) * 0x2000)
 }
 
-// A subnormal binary16 is a normal binary32: its digits are shifted until the leading one stands at place 10.
+// A subnormal binary16 is a normal binary32: its digits are shifted up until the leading one stands at place 10, which
+// takes as many places as there are zeros before it, less the 21 above place 10.
 fn subnormal(sign: u32, mant: u32) -> f32
     requires { ⌜ (sign < 2) × (0 < mant) × (mant < 1024) ⌝ }
     ensures { λ r. ⌜ r ≡ round binary32 (eqb sign 1) mant (2 ^ 24) ⌝ }
 {
-    let mut digits = mant;
-    let mut exp: u32 = 113;
-    while digits < 1024 {
-        digits = digits * 2;
-        exp = exp - 1;
-    }
-    normal(sign, exp, digits)
+    let up = u32::leading_zeros(mant) - 21;
+    normal(sign, 113 - up, mant << up)
 }
 
 // The binary32 of a binary16: the same number, with its sign; a NaN for a NaN.

@@ -1,53 +1,41 @@
--- `binary16::subnormal` meets its contract. Invariant: the digits are shifted up by as many places as the exponent went down. Assumes nothing.
-use mathlib.Core.Path.{_≡_, sym, ap, _∙_, subst}
-use Prim.Native.Nat.{ℕ, _+_, _-_, _*_, _^_, _≤_, _<_}
-use native.Mathlib.Nat.{mul-one}
+-- `binary16::subnormal` meets its contract: the digits go up by as many places as the exponent goes down. Assumes nothing.
+use mathlib.Core.Path.{_≡_, ap, _∙_}
+use Prim.Native.Nat.{ℕ, _+_, _-_, _*_, _%_, _^_}
+use native.Mathlib.Nat.{mod-eq-of-lt}
 use native.Mathlib.Omega.{arith}
+use lib.Count.{leadingZeros}
 use lib.Dec.{eqb}
 use lib.Ieee.{binary32, round}
-use Rattle.halves.proofs.Shifted.{shifted, few, once-more}
+use Rattle.halves.proofs.Shifted.{shifted, placed, Placed}
 use Rattle.halves.proofs.binary16.subnormal.Statement.{statement}
 use Rattle.halves.proofs.binary16.subnormal.Tie as tie
 
-abbrev Inv-loop : tie.InvT-loop
-Inv-loop sign mant digits₀ exp₀ digits exp = (digits ≡ mant * 2 ^ (113 - exp)) × (exp ≤ 113) × (103 ≤ exp) × (digits < 2048)
+there : (c : tie.Start) → Placed (c .args .mant) (leadingZeros 32 (c .args .mant))
+there c = placed (c .args .mant) (c .pre .1) (c .pre .2)
 
-abbrev μ-loop : tie.MeasureT-loop
-μ-loop sign mant digits₀ exp₀ digits exp = exp
+-- no digit is shifted out
+kept : (c : tie.Start) → (let n = c .args .mant * 2 ^ (leadingZeros 32 (c .args .mant) - 21) in n % 4294967296 ≡ n)
+kept c = let h = there c .3 in mod-eq-of-lt (omega arith)
 
-loop-holds : tie.Need-loop-holds Inv-loop μ-loop
-loop-holds c = (sym (mul-one (c .args .mant)), omega arith, omega arith, omega arith)
+sub-up : tie.Need-sub-up
+sub-up c = omega (arith, there c)
 
--- in a turn the exponent is above 103
-above : (c : tie.In-loop Inv-loop μ-loop) → 104 ≤ c .before .loop .exp
-above c =
-    let l = c .before .loop in
-    let k : 113 - l .exp < 10 = few (c .before .before .args .mant) (113 - l .exp) (c .before .before .pre .1) (subst (λ (z : ℕ). z < 1024) (l .inv .0) (c .loop-test .taken)) in
-    omega arith
+sub-normal : tie.Need-sub-normal
+sub-normal c = omega (arith, there c)
 
-sub-exp : tie.Need-sub-exp Inv-loop μ-loop
-sub-exp c = omega (arith, above c)
+shl-normal : tie.Need-shl-normal
+shl-normal c = omega (arith, there c)
 
-loop-less : tie.Need-loop-less Inv-loop μ-loop
-loop-less c = omega (arith, above c)
+normal-requires : tie.Need-normal-requires
+normal-requires c κs = omega (arith, there c, kept c)
 
-loop-again : tie.Need-loop-again Inv-loop μ-loop
-loop-again c =
-    let l = c .before .loop in
-    let h : 1 ≤ l .exp = omega (arith, above c) in
-    (ap (λ (z : ℕ). z * 2) (l .inv .0) ∙ once-more (c .before .before .args .mant) (l .exp) h (l .inv .1), omega arith, omega (arith, above c), omega arith)
-
-returns : tie.Need-returns Inv-loop μ-loop
+returns : tie.Need-returns
 returns c =
-    let d = c .before in
-    let a = d .before .before .args in
-    let l = d .before .loop in
-    let h : 113 - l .exp + l .exp ≡ 113 = omega arith in
-    c .normal .ensures
-    ∙ ap (λ (z : ℕ). round binary32 (eqb (a .sign) 1) (z * 2 ^ l .exp) (2 ^ 137)) (l .inv .0)
-    ∙ shifted (eqb (a .sign) 1) (a .mant) (113 - l .exp) (l .exp) h
+    let s = eqb (c .before .args .sign) 1 in
+    let a = c .before .args .mant in
+    let k = leadingZeros 32 a - 21 in
+    let h : k + (113 - k) ≡ 113 = omega (arith, there (c .before)) in
+    c .normal .ensures ∙ ap (λ (z : ℕ). round binary32 s (z * 2 ^ (113 - k)) (2 ^ 137)) (kept (c .before)) ∙ shifted s a k (113 - k) h
 
 pub subnormal-spec : {M : Type 1} → statement M
-subnormal-spec =
-    tie.close
-    (tie.spec Inv-loop μ-loop loop-holds (λ c. omega arith) sub-exp loop-less loop-again (λ c κs. omega arith) returns)
+subnormal-spec = tie.close (tie.spec sub-up sub-normal shl-normal normal-requires returns)
