@@ -8,9 +8,11 @@ use lib.Ieee.{Float}
 use Rattle.refusals.specs.Said.{Said, value, no}
 use Rattle.refusals.specs.Refusals.{given}
 use Rattle.refusals.specs.Sizes.{mostIn}
+use Rattle.memory.specs.Lists.{stretchesIn}
 use Rattle.numbers.specs.Steps.{nought}
 use Rattle.layouts.specs.Formats.{bytesK}
 use Rattle.layouts.specs.Weights.{valuesOf}
+use Rattle.layouts.specs.Counts.{weightsShort}
 use Rattle.layouts.specs.declared.format.FormatK.{FormatK}
 use Rattle.layouts.specs.declared.format.Format.the-variants.{OfK}
 use Rattle.sums.specs.Rows.{rowSum}
@@ -23,6 +25,6 @@ fusedSays f x w n =
     given (no 6) (ltb mostIn n)
     (given (no 1) (not (eqb (length w % bytesK f) 0))
     (cond (eqb n 0) (value nought)
-    (given (no 3) (ltb (valuesOf (OfK f) (length w)) n)
+    (given (weightsShort f (length w) (stretchesIn 256 n)) (ltb (valuesOf (OfK f) (length w)) n)
     (given (no 4) (ltb (length x) n)
     (value (rowSum (terms f x w) n))))))

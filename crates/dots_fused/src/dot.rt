@@ -46,7 +46,7 @@ pub fn fused_dot(format: FormatK, x: &[f32], w: &[u8], n: usize) -> Answer
         return Answer::Value(0.0);
     }
     if weights < n {
-        return Answer::Refused(refusals::WEIGHTS_SHORT);
+        return Answer::Refused(layouts::weights_short(format, w.len(), layouts::blocks_in(n)));
     }
     if x.len() < n {
         return Answer::Refused(refusals::READINGS_SHORT);

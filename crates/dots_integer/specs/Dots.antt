@@ -9,6 +9,7 @@ use lib.Ieee.{Float, binary32, mul, sub, ofInt}
 use Rattle.refusals.specs.Said.{Said, value, no}
 use Rattle.refusals.specs.Refusals.{given}
 use Rattle.layouts.specs.Formats.{bytesK, hasMinimums}
+use Rattle.layouts.specs.Counts.{weightsShort}
 use Rattle.layouts.specs.K.{quantK, scaleK, minimumQ4K, dOf, dminOf}
 use Rattle.layouts.specs.declared.format.FormatK.{FormatK}
 use Rattle.dots_activation.specs.declared.block.Q8Block.{Q8Block}
@@ -54,6 +55,6 @@ sumsServe f qs sums = cond (hasMinimums f) (sumsRight qs sums) true
 -- are ignored.
 unfoldable pub blockDotSays : FormatK → List ℕ → Q8Block → ℕ → Said Float
 blockDotSays f w b n =
-    given (no 3) (ltb (length w) (bytesK f))
+    given (weightsShort f (length w) 1) (ltb (length w) (bytesK f))
     (given (no 7) (not (sumsServe f (b .qs) (b .bsums)))
     (value (dotWith f (take (bytesK f) w) b (min n 256))))

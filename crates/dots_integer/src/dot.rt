@@ -122,7 +122,7 @@ pub fn first_dot(
 {
     let size = layouts::block_bytes(Format::OfK(format));
     if w.len() < size {
-        return Answer::Refused(refusals::WEIGHTS_SHORT);
+        return Answer::Refused(layouts::weights_short(format, w.len(), 1));
     }
     if !sums_serve(format, qs, sums) {
         return Answer::Refused(refusals::WRONG_SUMS);

@@ -12,6 +12,7 @@ use Rattle.memory.specs.Lists.{table, part, stretchesIn, stretchLength}
 use Rattle.numbers.specs.Steps.{nought}
 use Rattle.layouts.specs.Formats.{bytesK}
 use Rattle.layouts.specs.Weights.{block}
+use Rattle.layouts.specs.Counts.{weightsShort}
 use Rattle.layouts.specs.declared.format.Format.the-variants.{OfK}
 use Rattle.layouts.specs.declared.format.FormatK.{FormatK}
 use Rattle.sums_tree.specs.Tree.{tree}
@@ -34,6 +35,6 @@ integerSays f x w n =
     given (no 6) (ltb mostIn n)
     (given (no 1) (not (eqb (length w % bytesK f) 0))
     (cond (eqb n 0) (value nought)
-    (given (no 3) (ltb (length w) (stretchesIn 256 n * bytesK f))
+    (given (weightsShort f (length w) (stretchesIn 256 n)) (ltb (length w) (stretchesIn 256 n * bytesK f))
     (given (no 4) (ltb (length x) n)
     (value (integerRow f x w n))))))

@@ -3,6 +3,7 @@ use dots_activation::quantized_block;
 use dots_integer::block_dot_below;
 use layouts::Format;
 use layouts::FormatK;
+use layouts::blocks_in;
 use refusals::Answer;
 ghost use mathlib.Core.Path.{_≡_};
 ghost use Prim.Native.Nat.{_+_, _*_, _≤_, _<_};
@@ -15,14 +16,6 @@ ghost use Rattle.dots_integer_row.specs.Rows.{integerRow, integerSays};
 
 // The blocks of a row at most.
 const MOST_BLOCKS: usize = 512;
-
-// How many blocks n places make: 512 at most.
-fn blocks_in(n: usize) -> usize
-    requires { ⌜ n ≤ mostIn ⌝ }
-    ensures { λ r. ⌜ r ≡ stretchesIn 256 n ⌝ }
-{
-    (n + 255) / 256
-}
 
 // Where the readings of block b of n places end; they start at 256 b.
 fn block_end(n: usize, b: usize) -> usize
@@ -70,8 +63,9 @@ fn integer_dot(format: FormatK, x: &[f32], w: &[u8], n: usize) -> Answer
     if n == 0 {
         return Answer::Value(0.0);
     }
-    if w.len() < blocks_in(n) * size {
-        return Answer::Refused(refusals::WEIGHTS_SHORT);
+    let needed = blocks_in(n);
+    if w.len() < needed * size {
+        return Answer::Refused(layouts::weights_short(format, w.len(), needed));
     }
     if x.len() < n {
         return Answer::Refused(refusals::READINGS_SHORT);

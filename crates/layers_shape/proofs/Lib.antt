@@ -1,3 +1,4 @@
--- What is known of a layer that does not refuse, and of its rows.
+-- What is known of a layer that does not refuse, of one whose weights are short, and of its rows.
 pub mod Fits
+pub mod Short
 pub mod Rows

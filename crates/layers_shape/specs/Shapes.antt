@@ -5,11 +5,13 @@ use mathlib.Core.Bool.{Bool, not, _||_}
 use mathlib.Core.List.{List}
 use lib.Dec.{ltb, eqb}
 use lib.Ieee.{Float}
+use Rattle.refusals.specs.declared.Refusal.{Refusal}
 use Rattle.refusals.specs.Sizes.{mostIn, mostOut, mostBatch}
 use Rattle.refusals.specs.Said.{Said, done, no}
 use Rattle.refusals.specs.Refusals.{given}
 use Rattle.memory.specs.Lists.{filled, part}
 use Rattle.layouts.specs.Formats.{bytesK}
+use Rattle.layouts.specs.Counts.{weightsShort}
 use Rattle.layouts.specs.declared.format.FormatK.{FormatK}
 use Rattle.layers_shape.specs.declared.Shape.{Shape}
 
@@ -29,13 +31,17 @@ rowBytes f n = n / 256 * bytesK f
 abbrev pub weightBytes : FormatK → (inFeat outFeat : ℕ) → ℕ
 weightBytes f inFeat outFeat = outFeat * rowBytes f inFeat
 
+-- fewer weight bytes than a layer's weights have: outFeat rows of inFeat need so many blocks
+abbrev pub layerShort : FormatK → (inFeat outFeat weights : ℕ) → Refusal
+layerShort f inFeat outFeat weights = weightsShort f weights (outFeat * (inFeat / 256))
+
 -- Why a fused, integer or `_rs` layer says no, given so many readings, weight bytes and output places. Needs are
 -- products of the stated sizes, also when batch or out_feat is 0.
 unfoldable pub layerRefusal : FormatK → Shape → (readings weights places : ℕ) → Said (Unit {0})
 layerRefusal f s readings weights places =
     given (no 6) (oversize s)
     (given (no 2) (not (eqb (s .«in_feat» % 256) 0))
-    (given (no 3) (ltb weights (weightBytes f (s .«in_feat») (s .«out_feat»)))
+    (given (layerShort f (s .«in_feat») (s .«out_feat») weights) (ltb weights (weightBytes f (s .«in_feat») (s .«out_feat»)))
     (given (no 4) (ltb readings (s .batch * s .«in_feat»))
     (given (no 5) (ltb places (s .batch * s .«out_feat»))
     done))))

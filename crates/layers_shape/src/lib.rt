@@ -2,11 +2,12 @@
 use layouts::Format;
 use layouts::FormatK;
 use refusals::Check;
+use refusals::Refusal;
 ghost use mathlib.Core.Path.{_≡_};
 ghost use Prim.Native.Nat.{_≤_};
 ghost use Rattle.refusals.specs.Said.{checkSays};
 ghost use Rattle.refusals.specs.Sizes.{mostIn, mostOut};
-ghost use Rattle.layers_shape.specs.Shapes.{oversize, rowBytes, weightBytes, layerRefusal};
+ghost use Rattle.layers_shape.specs.Shapes.{oversize, rowBytes, weightBytes, layerShort, layerRefusal};
 
 // `batch` rows of in_feat readings, out_feat rows of in_feat weights, and an output for each pair of them.
 pub struct Shape {
@@ -44,6 +45,14 @@ pub fn weight_bytes(format: FormatK, in_feat: usize, out_feat: usize) -> usize
     out_feat * row_bytes(format, in_feat)
 }
 
+// The refusal of fewer weight bytes than a layer's weights have, with the blocks that were found and that are needed.
+pub fn layer_short(format: FormatK, in_feat: usize, out_feat: usize, weights: usize) -> Refusal
+    requires { ⌜ («in_feat» ≤ mostIn) × («out_feat» ≤ mostOut) ⌝ }
+    ensures { λ r. ⌜ r ≡ layerShort format «in_feat» «out_feat» weights ⌝ }
+{
+    layouts::weights_short(format, weights, out_feat * (in_feat / 256))
+}
+
 // Why a layer of this shape says no, given so many readings, weight bytes and output places: 6, 2, 3, 4, 5, in this
 // order.
 pub fn layer_refusal(
@@ -62,7 +71,7 @@ pub fn layer_refusal(
         return Check::Refused(refusals::NOT_A_MULTIPLE);
     }
     if weights < weight_bytes(format, s.in_feat, s.out_feat) {
-        return Check::Refused(refusals::WEIGHTS_SHORT);
+        return Check::Refused(layer_short(format, s.in_feat, s.out_feat, weights));
     }
     if readings < s.batch * s.in_feat {
         return Check::Refused(refusals::READINGS_SHORT);

@@ -1,6 +1,7 @@
 -- What several proofs of `layouts` share.
 pub mod Small
 pub mod Sizes
+pub mod Short
 pub mod Two
 pub mod Quants
 pub mod Rows

@@ -3,3 +3,4 @@ pub mod Formats
 pub mod Of32
 pub mod K
 pub mod Weights
+pub mod Counts

@@ -1,8 +1,11 @@
 // The formats of packed blocks: the bytes and values of each, and the whole numbers of those with 32 values to a block.
 // What a block of any format means is defined here.
+mod counts;
 mod format;
 mod of32;
 
+pub use counts::blocks_in;
+pub use counts::weights_short;
 pub use format::Format;
 pub use format::Format32;
 pub use format::FormatK;

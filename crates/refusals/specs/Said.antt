@@ -15,9 +15,13 @@ pub data Said (A : Type 0) : Type 0 where
   value : A → Said A
   refused : Refusal → Said A
 
--- the refusal with document 01's number
+-- the refusal with document 01's number, which counts no blocks
 abbrev pub no : ℕ → Refusal
-no num = record { number = num }
+no num = record { number = num; found = 0; needed = 0 }
+
+-- fewer packed weights than needed (3): so many whole blocks were found, and so many are needed
+abbrev pub blocksShort : (found needed : ℕ) → Refusal
+blocksShort found needed = record { number = 3; found = found; needed = needed }
 
 -- the work is done; and of a check, nothing is refused
 abbrev pub done : Said (Unit {0})

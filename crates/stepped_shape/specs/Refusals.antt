@@ -12,7 +12,7 @@ use Rattle.refusals.specs.Refusals.{given, orElse}
 use Rattle.layouts.specs.declared.format.FormatK.{FormatK}
 use Rattle.layouts.specs.declared.format.Named.{Named}
 use Rattle.layouts.specs.declared.format.Named.the-variants.{Known, Unknown}
-use Rattle.layers_shape.specs.Shapes.{weightBytes}
+use Rattle.layers_shape.specs.Shapes.{weightBytes, layerShort}
 use Rattle.stepped_shape.specs.declared.shape.Layer.{Layer}
 use Rattle.stepped_shape.specs.Layer.{chunks, pieces, place, openInRow}
 
@@ -45,7 +45,8 @@ openRefusal l slots marks = orElse (shapeRefusal l) (roomRefusal l slots marks)
 unfoldable pub workRefusal : FormatK → Layer → (weights readings slots marks : ℕ) → Said (Unit {0})
 workRefusal f l weights readings slots marks =
     orElse (shapeRefusal l)
-    (given (no 3) (ltb weights (weightBytes f (l .«in_feat») (l .«out_feat»)))
+    (given (layerShort f (l .«in_feat») (l .«out_feat») weights)
+    (ltb weights (weightBytes f (l .«in_feat») (l .«out_feat»)))
     (given (no 4) (ltb readings (l .«in_feat»))
     (roomRefusal l slots marks)))
 

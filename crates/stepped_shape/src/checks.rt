@@ -3,6 +3,7 @@ use crate::shape::Layer;
 use crate::shape::chunks_of;
 use crate::shape::pieces_of;
 use crate::shape::place_of;
+use layers_shape::layer_short;
 use layouts::FormatK;
 use refusals::Check;
 ghost use mathlib.Core.Path.{_≡_};
@@ -75,7 +76,7 @@ pub fn work_refusal(
         return Check::Refused(refusal);
     }
     if weights < layers_shape::weight_bytes(format, l.in_feat, l.out_feat) {
-        return Check::Refused(refusals::WEIGHTS_SHORT);
+        return Check::Refused(layer_short(format, l.in_feat, l.out_feat, weights));
     }
     if readings < l.in_feat {
         return Check::Refused(refusals::READINGS_SHORT);

@@ -26,12 +26,16 @@ returns-2 c =
 weight-bytes-requires : tie.Need-weight-bytes-requires
 weight-bytes-requires c κs = let z = sized (c .before .before) in (z .in-in, z .out-in)
 
+layer-short-requires : tie.Need-layer-short-requires
+layer-short-requires c κs = let z = sized (c .before .before .before .before) in (z .in-in, z .out-in)
+
 returns-3 : tie.Need-returns-3
 unfolding layerRefusal given
 returns-3 c =
-    let a = c .before .before .before .before in
-    let r = c .before .weight-bytes .ensures in
-    simp (sym (a .before .is-oversize .ensures), a .if1 .left, eq-eqb _ _ (c .before .before .if2 .left), lt-ltb _ _ (rw r at (c .if3 .taken)))
+    let i = c .before in
+    let a = i .before .before .before .before in
+    let r = i .before .weight-bytes .ensures in
+    simp (sym (a .before .is-oversize .ensures), a .if1 .left, eq-eqb _ _ (i .before .before .if2 .left), lt-ltb _ _ (rw r at (i .if3 .taken)), c .layer-short .ensures)
 
 mul-if4 : tie.Need-mul-if4
 mul-if4 c =
@@ -95,6 +99,7 @@ layer-refusal-spec =
     returns
     returns-2
     weight-bytes-requires
+    layer-short-requires
     returns-3
     mul-if4
     returns-4

@@ -50,14 +50,17 @@ returns-3 c =
 returns-4 : tie.Need-returns-4
 unfolding fusedSays given
 returns-4 c =
-    let b = c .before .before .before .before in
+    let i = c .before .before in
+    let b = i .before .before .before .before in
     let a = b .before .before .before .args in
     simp (
       sym (b .block-bytes .ensures),
-      le-ltb _ _ (c .before .before .before .if1 .left),
-      eq-eqb _ _ (c .before .before .if2 .left),
-      ne-eqb _ _ (c .before .if3 .left),
+      le-ltb _ _ (i .before .before .before .if1 .left),
+      eq-eqb _ _ (i .before .before .if2 .left),
+      ne-eqb _ _ (i .before .if3 .left),
       lt-ltb (length (a .w .now) / b .block-bytes .result * 256) (a .n) (omega arith),
+      c .weights-short .ensures,
+      c .before .blocks-in .ensures,
     )
 
 returns-5 : tie.Need-returns-5
@@ -99,6 +102,8 @@ fused-dot-spec =
     returns
     returns-2
     returns-3
+    (λ c κs. omega arith)
+    (λ c κs. search needs)
     returns-4
     returns-5
     row-dot-requires

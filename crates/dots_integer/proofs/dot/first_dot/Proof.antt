@@ -6,7 +6,7 @@ use borrow.Author.Needs.{needs}
 use borrow.Author.Tests.{lt-ltb, le-ltb, not-false}
 use lib.ListN.{take}
 use lib.Seq.{length-take-le}
-use Rattle.refusals.specs.Said.{value}
+use Rattle.refusals.specs.Said.{value, refused}
 use Rattle.refusals.proofs.Laws.{given-yes, given-no}
 use Rattle.dots_integer.specs.Dots.{blockDot, blockDotSays}
 use Rattle.dots_integer.proofs.dot.first_dot.Statement.{statement}
@@ -17,7 +17,9 @@ block-bytes-requires c κs = search needs
 
 returns : tie.Need-returns
 unfolding blockDotSays
-returns c = sym (given-yes _ _ _ (lt-ltb _ _ (rw (c .before .block-bytes .ensures) at (c .if1 .taken))))
+returns c =
+    let i = c .before in
+    ap refused (c .weights-short .ensures) ∙ sym (given-yes _ _ _ (lt-ltb _ _ (rw (i .before .block-bytes .ensures) at (i .if1 .taken))))
 
 sums-serve-requires : tie.Need-sums-serve-requires
 sums-serve-requires c κs = search needs
@@ -54,6 +56,7 @@ first-dot-spec =
     tie.close
     (tie.spec
     block-bytes-requires
+    (λ c κs. search needs)
     returns
     sums-serve-requires
     returns-2

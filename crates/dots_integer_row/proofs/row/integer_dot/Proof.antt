@@ -43,7 +43,8 @@ mul-if4 c =
 returns-4 : tie.Need-returns-4
 unfolding integerSays given
 returns-4 c =
-    simp (sym (c .before .before .before .before .before .block-bytes .ensures), sym (c .before .blocks-in .ensures), le-ltb _ _ (c .before .before .before .before .if1 .left), eq-eqb _ _ (c .before .before .before .if2 .left), ne-eqb _ _ (c .before .before .if3 .left), lt-ltb _ _ (c .if4 .taken))
+    let i = c .before in
+    simp (sym (i .before .before .before .before .before .block-bytes .ensures), sym (i .before .blocks-in .ensures), le-ltb _ _ (i .before .before .before .before .if1 .left), eq-eqb _ _ (i .before .before .before .if2 .left), ne-eqb _ _ (i .before .before .if3 .left), lt-ltb _ _ (i .if4 .taken), c .weights-short .ensures)
 
 returns-5 : tie.Need-returns-5
 unfolding integerSays given
@@ -72,6 +73,7 @@ integer-dot-spec =
     returns-3
     (λ c κs. search needs)
     mul-if4
+    (λ c κs. search needs)
     returns-4
     returns-5
     integer-row-requires

@@ -1,8 +1,8 @@
 -- `checks::work_refusal` meets its contract: the shape, then weights, readings, slots and marks. Assumes nothing.
 use borrow.Author.Needs.{needs}
 use borrow.Author.Tests.{lt-ltb, le-ltb}
-use mathlib.Core.Path.{_≡_, sym, _∙_}
-use Rattle.refusals.specs.Said.{done}
+use mathlib.Core.Path.{_≡_, sym, ap, _∙_}
+use Rattle.refusals.specs.Said.{refused, done}
 use Rattle.refusals.proofs.Laws.{given-yes, given-no, else-first, else-later, check-passed, check-refused}
 use Rattle.stepped_shape.specs.Refusals.{shapeRefusal, workRefusal}
 use Rattle.stepped_shape.proofs.Shapes.{shaped}
@@ -19,11 +19,16 @@ shape c = check-passed (c .before .before .shape-refusal .ensures) (c .enum-told
 weight-bytes-requires : tie.Need-weight-bytes-requires
 weight-bytes-requires c κs = let s = shaped _ (shape c) in (s .inputs, s .outputs)
 
+layer-short-requires : tie.Need-layer-short-requires
+layer-short-requires c κs = let s = shaped _ (shape (c .before .before)) in (s .inputs, s .outputs)
+
 returns-2 : tie.Need-returns-2
 unfolding workRefusal
 returns-2 c =
-    let b = c .before in
-    rw (sym (b .weight-bytes .ensures)) (sym (else-later _ _ (shape (b .before)) ∙ given-yes _ _ _ (lt-ltb _ _ (c .if1 .taken))))
+    let i = c .before in
+    let b = i .before in
+    rw (sym (b .weight-bytes .ensures))
+    (ap refused (c .layer-short .ensures) ∙ sym (else-later _ _ (shape (b .before)) ∙ given-yes _ _ _ (lt-ltb _ _ (i .if1 .taken))))
 
 returns-3 : tie.Need-returns-3
 unfolding workRefusal
@@ -55,6 +60,7 @@ work-refusal-spec =
     returns
     (λ c. search needs)
     weight-bytes-requires
+    layer-short-requires
     returns-2
     returns-3
     room-refusal-requires
