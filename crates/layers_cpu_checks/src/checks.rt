@@ -4,12 +4,23 @@ use layouts::Format;
 use layouts::Format32;
 use layouts::FormatK;
 use refusals::Check;
+use refusals::Refusal;
 ghost use mathlib.Core.Path.{_≡_};
 ghost use Prim.Native.Nat.{_^_, _<_};
 ghost use Rattle.refusals.specs.Said.{checkSays};
-ghost use Rattle.layers_cpu_checks.specs.Refusals.{cpuRefusal};
+ghost use Rattle.layers_cpu_checks.specs.Refusals.{otherWeights, cpuRefusal};
 
-// Over a K format: 6, 4, 5, 1, 3, and 5 for scratch, in this order. A slice has fewer than 2^63
+// The refusal of any other weights than needed: there are fewer, or there are more.
+fn other_weights(found: usize, needed: usize) -> Refusal
+    ensures { λ r. ⌜ r ≡ otherWeights found needed ⌝ }
+{
+    if found < needed {
+        return refusals::WEIGHTS_SHORT;
+    }
+    refusals::WEIGHTS_LONG
+}
+
+// Over a K format: 6, 4, 5, 1, 3 or 14, and 5 for scratch, in this order. A slice has fewer than 2^63
 // places, so the product of its blocks fits.
 fn cpu_k_refusal(
     format: FormatK,
@@ -35,8 +46,10 @@ fn cpu_k_refusal(
     if weights % size != 0 {
         return Check::Refused(refusals::NOT_WHOLE_BLOCKS);
     }
-    if weights / size * 256 != s.out_feat * s.in_feat {
-        return Check::Refused(refusals::WEIGHTS_SHORT);
+    let found = weights / size * 256;
+    let needed = s.out_feat * s.in_feat;
+    if found != needed {
+        return Check::Refused(other_weights(found, needed));
     }
     if scratch < s.in_feat {
         return Check::Refused(refusals::ROOM_SHORT);
@@ -44,7 +57,7 @@ fn cpu_k_refusal(
     Check::Passed
 }
 
-// Over a 32-value format: 6, 2, 3, 4, 5, and 5 for scratch, in this order.
+// Over a 32-value format: 6, 2, 3 or 14, 4, 5, and 5 for scratch, in this order.
 fn cpu_32_refusal(
     format: Format32,
     s: Shape,
@@ -62,8 +75,9 @@ fn cpu_32_refusal(
         return Check::Refused(refusals::NOT_A_MULTIPLE);
     }
     let size = layouts::block_bytes(Format::Of32(format));
-    if weights != s.out_feat * (s.in_feat / 32 * size) {
-        return Check::Refused(refusals::WEIGHTS_SHORT);
+    let needed = s.out_feat * (s.in_feat / 32 * size);
+    if weights != needed {
+        return Check::Refused(other_weights(weights, needed));
     }
     if readings != s.batch * s.in_feat {
         return Check::Refused(refusals::READINGS_SHORT);

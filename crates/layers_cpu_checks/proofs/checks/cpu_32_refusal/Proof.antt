@@ -34,21 +34,22 @@ row-small c =
     let few : size .result ≤ 34 = rw (size .ensures) (least-32 (a .before .before .args .format) .1) in
     product-small (s .«in_feat» / 32) (size .result) 4096 34 (omega (arith, sized a .in-in)) few
 
-mul-if3 : tie.Need-mul-if3
-mul-if3 c = omega (arith, row-small (c .before))
+mul-needed : tie.Need-mul-needed
+mul-needed c = omega (arith, row-small (c .before))
 
-mul-if3-2 : tie.Need-mul-if3-2
-mul-if3-2 c =
+mul-needed-2 : tie.Need-mul-needed-2
+mul-needed-2 c =
     let b = c .before .before in
     omega (arith, product-small _ _ 65536 139264 (sized (b .before .before .before) .out-in) (row-small b))
 
 returns-3 : tie.Need-returns-3
 unfolding cpuRefusal given
 returns-3 c =
-    let d = c .before .before .before .before in
+    let e = c .before in
+    let d = e .before .before .before .before in
     let a = d .before .before in
-    let size = c .before .before .before .block-bytes .ensures in
-    simp (sym size, sym (a .before .is-oversize .ensures), a .if1 .left, eq-eqb _ _ (d .if2 .left), ne-eqb _ _ (c .if3 .taken))
+    let size = e .before .before .before .block-bytes .ensures in
+    simp (sym size, sym (a .before .is-oversize .ensures), a .if1 .left, eq-eqb _ _ (d .if2 .left), ne-eqb _ _ (e .if3 .taken), c .other-weights .ensures)
 
 mul-if4 : tie.Need-mul-if4
 mul-if4 c =
@@ -109,8 +110,9 @@ cpu-32-refusal-spec =
     returns
     returns-2
     (λ c κs. search needs)
-    mul-if3
-    mul-if3-2
+    mul-needed
+    mul-needed-2
+    (λ c κs. search needs)
     returns-3
     mul-if4
     returns-4

@@ -54,28 +54,29 @@ returns-4 c =
     let size = c .before .block-bytes .ensures in
     simp (sym size, sym (a .before .is-oversize .ensures), a .if1 .left, eq-eqb _ _ (b .if2 .left), eq-eqb _ _ (d .if3 .left), ne-eqb _ _ (c .if4 .taken))
 
-div-if5 : tie.Need-div-if5
-div-if5 c = omega (arith, sizes (OfK (c .before .before .before .before .before .before .before .before .args .format)), c .before .block-bytes .ensures)
+div-found : tie.Need-div-found
+div-found c = omega (arith, sizes (OfK (c .before .before .before .before .before .before .before .before .args .format)), c .before .block-bytes .ensures)
 
-mul-if5 : tie.Need-mul-if5
-mul-if5 c =
+mul-found : tie.Need-mul-found
+mul-found c =
     let t = c .before .before .before .before .before .before .before .before in
     record { fits = values-fit (t .args .format) (c .before .block-bytes .result) (t .args .weights) (c .before .block-bytes .ensures) (t .pre) }
 
-mul-if5-2 : tie.Need-mul-if5-2
-mul-if5-2 c =
+mul-needed : tie.Need-mul-needed
+mul-needed c =
     let z = sized (c .before .before .before .before .before .before .before) in
     omega (arith, product-small _ _ 65536 131072 (z .out-in) (z .in-in))
 
 returns-5 : tie.Need-returns-5
 unfolding cpuRefusal given
 returns-5 c =
-    let e = c .before .before in
+    let g = c .before in
+    let e = g .before .before in
     let d = e .before .before in
     let b = d .before .before in
     let a = b .before .before in
     let size = e .before .block-bytes .ensures in
-    simp (sym size, sym (a .before .is-oversize .ensures), a .if1 .left, eq-eqb _ _ (b .if2 .left), eq-eqb _ _ (d .if3 .left), eq-eqb _ _ (e .if4 .left), ne-eqb _ _ (c .if5 .taken))
+    simp (sym size, sym (a .before .is-oversize .ensures), a .if1 .left, eq-eqb _ _ (b .if2 .left), eq-eqb _ _ (d .if3 .left), eq-eqb _ _ (e .if4 .left), ne-eqb _ _ (g .if5 .taken), c .other-weights .ensures)
 
 returns-6 : tie.Need-returns-6
 unfolding cpuRefusal given
@@ -112,9 +113,10 @@ cpu-k-refusal-spec =
     (λ c κs. search needs)
     rem-if4
     returns-4
-    div-if5
-    mul-if5
-    mul-if5-2
+    div-found
+    mul-found
+    mul-needed
+    (λ c κs. search needs)
     returns-5
     returns-6
     returns-7)
