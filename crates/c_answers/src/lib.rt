@@ -4,6 +4,8 @@ mod blocks;
 mod counts;
 
 pub use answers::lay_out;
+pub use answers::lay_out_and_blocks;
+pub use answers::number_and_blocks;
 pub use answers::number_of;
 pub use blocks::lay_out_block;
 pub use counts::lay_out_counts;

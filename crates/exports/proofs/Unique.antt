@@ -1,4 +1,5 @@
 -- Each call has one answer: at the same arguments its contract holds of no two, and of no two of what it leaves in lent memory. Assumes nothing.
+use Prim.Native.Nat.{ℕ}
 use mathlib.Core.List.{List}
 use lib.Ieee.{Float}
 use denote.Ref.{now}
@@ -82,37 +83,37 @@ canonical-sum-pub-once κs a x y s t h k = both h k
 pub quantize-block-q8-once : OneCall quantize-block-q8.Post (λ κs s. blockIn (now (s .1 .0)) (now (s .1 .1 .0)) (now (s .1 .1 .1 .0)))
 quantize-block-q8-once κs a x y s t h k = both h k
 
-pub dot-q4k-q8-block-once : OneCall dot-q4k-q8-block.Post (λ κs s. now (s .1 .1 .1 .1 .1 .0))
+pub dot-q4k-q8-block-once : OneCall {M = Float × List ℕ} dot-q4k-q8-block.Post (λ κs s. (now (s .1 .1 .1 .1 .1 .0), now (s .1 .1 .1 .1 .1 .1 .0)))
 dot-q4k-q8-block-once κs a x y s t h k = both h k
 
-pub dot-q6k-q8-block-once : OneCall dot-q6k-q8-block.Post (λ κs s. now (s .1 .1 .1 .1 .1 .0))
+pub dot-q6k-q8-block-once : OneCall {M = Float × List ℕ} dot-q6k-q8-block.Post (λ κs s. (now (s .1 .1 .1 .1 .1 .0), now (s .1 .1 .1 .1 .1 .1 .0)))
 dot-q6k-q8-block-once κs a x y s t h k = both h k
 
-pub integer-dot-q4k-once : OneCall integer-dot-q4k.Post (λ κs s. now (s .1 .1 .1 .0))
+pub integer-dot-q4k-once : OneCall {M = Float × List ℕ} integer-dot-q4k.Post (λ κs s. (now (s .1 .1 .1 .0), now (s .1 .1 .1 .1 .0)))
 integer-dot-q4k-once κs a x y s t h k = both h k
 
-pub canonical-dot-q4k-fused-once : OneCall canonical-dot-q4k-fused.Post (λ κs s. now (s .1 .1 .1 .0))
+pub canonical-dot-q4k-fused-once : OneCall {M = Float × List ℕ} canonical-dot-q4k-fused.Post (λ κs s. (now (s .1 .1 .1 .0), now (s .1 .1 .1 .1 .0)))
 canonical-dot-q4k-fused-once κs a x y s t h k = both h k
 
-pub q6k-fused-f32-dot-once : OneCall q6k-fused-f32-dot.Post (λ κs s. now (s .1 .1 .1 .0))
+pub q6k-fused-f32-dot-once : OneCall {M = Float × List ℕ} q6k-fused-f32-dot.Post (λ κs s. (now (s .1 .1 .1 .0), now (s .1 .1 .1 .1 .0)))
 q6k-fused-f32-dot-once κs a x y s t h k = both h k
 
-pub linear-q4-k-fused-once : OneCall linear-q4-k-fused.Post (λ κs s. now (s .1 .1 .0))
+pub linear-q4-k-fused-once : OneCall {M = List Float × List ℕ} linear-q4-k-fused.Post (λ κs s. (now (s .1 .1 .0), now (s .1 .1 .1 .1 .1 .1 .0)))
 linear-q4-k-fused-once κs a x y s t h k = both h k
 
-pub linear-q6-k-fused-once : OneCall linear-q6-k-fused.Post (λ κs s. now (s .1 .1 .0))
+pub linear-q6-k-fused-once : OneCall {M = List Float × List ℕ} linear-q6-k-fused.Post (λ κs s. (now (s .1 .1 .0), now (s .1 .1 .1 .1 .1 .1 .0)))
 linear-q6-k-fused-once κs a x y s t h k = both h k
 
-pub linear-q4-k-integer-once : OneCall linear-q4-k-integer.Post (λ κs s. now (s .1 .1 .0))
+pub linear-q4-k-integer-once : OneCall {M = List Float × List ℕ} linear-q4-k-integer.Post (λ κs s. (now (s .1 .1 .0), now (s .1 .1 .1 .1 .1 .1 .0)))
 linear-q4-k-integer-once κs a x y s t h k = both h k
 
-pub linear-q6-k-integer-once : OneCall linear-q6-k-integer.Post (λ κs s. now (s .1 .1 .0))
+pub linear-q6-k-integer-once : OneCall {M = List Float × List ℕ} linear-q6-k-integer.Post (λ κs s. (now (s .1 .1 .0), now (s .1 .1 .1 .1 .1 .1 .0)))
 linear-q6-k-integer-once κs a x y s t h k = both h k
 
-pub linear-q4-k-integer-rs-once : OneCall linear-q4-k-integer-rs.Post (λ κs s. now (s .1 .1 .0))
+pub linear-q4-k-integer-rs-once : OneCall {M = List Float × List ℕ} linear-q4-k-integer-rs.Post (λ κs s. (now (s .1 .1 .0), now (s .1 .1 .1 .1 .1 .1 .0)))
 linear-q4-k-integer-rs-once κs a x y s t h k = both h k
 
-pub linear-q6-k-integer-rs-once : OneCall linear-q6-k-integer-rs.Post (λ κs s. now (s .1 .1 .0))
+pub linear-q6-k-integer-rs-once : OneCall {M = List Float × List ℕ} linear-q6-k-integer-rs.Post (λ κs s. (now (s .1 .1 .0), now (s .1 .1 .1 .1 .1 .1 .0)))
 linear-q6-k-integer-rs-once κs a x y s t h k = both h k
 
 -- the number, and what the output and scratch hold then
@@ -129,11 +130,11 @@ linear-q4-0-cpu-once κs a x y s t h k = both h k
 pub open-once : OneCall opening.Post (λ κs s. memory (now (s .1 .1 .1 .0)) (now (s .1 .1 .1 .1 .0)))
 open-once κs a x y s t h k = both h k
 
-pub piece-once : OneCall piece.Post (λ κs s. memory (now (s .1 .1 .1 .1 .1 .1 .1 .0)) (now (s .1 .1 .1 .1 .1 .1 .1 .1 .0)))
+pub piece-once : OneCall {M = Memory × List ℕ} piece.Post (λ κs s. (memory (now (s .1 .1 .1 .1 .1 .1 .1 .0)) (now (s .1 .1 .1 .1 .1 .1 .1 .1 .0)), now (s .1 .1 .1 .1 .1 .1 .1 .1 .1 .0)))
 piece-once κs a x y s t h k = both h k
 
--- the number, and the two counts, the slots and the marks that are left
-pub run-once : OneCall {M = Ran × Memory} running.Post (λ κs s. (ran (now (s .1 .1 .1 .1 .1 .1 .1 .1 .0)) (now (s .1 .1 .1 .1 .1 .1 .1 .1 .1 .0)), memory (now (s .1 .1 .1 .1 .1 .1 .0)) (now (s .1 .1 .1 .1 .1 .1 .1 .0))))
+-- the number, and the two counts, the slots, the marks and the block counts that are left
+pub run-once : OneCall {M = Ran × Memory × List ℕ} running.Post (λ κs s. (ran (now (s .1 .1 .1 .1 .1 .1 .1 .1 .0)) (now (s .1 .1 .1 .1 .1 .1 .1 .1 .1 .0)), memory (now (s .1 .1 .1 .1 .1 .1 .0)) (now (s .1 .1 .1 .1 .1 .1 .1 .0)), now (s .1 .1 .1 .1 .1 .1 .1 .1 .1 .1 .0)))
 run-once κs a x y s t h k = both h k
 
 pub close-once : OneCall closing.Post (λ κs s. now (s .1 .1 .1 .1 .1 .1 .0))

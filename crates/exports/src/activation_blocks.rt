@@ -1,12 +1,12 @@
 // Activation blocks, and the integer dots over them.
-use c_answers::lay_out;
+use c_answers::lay_out_and_blocks;
 use c_answers::lay_out_block;
 use layouts::FormatK;
 ghost use mathlib.Core.Path.{_≡_};
 ghost use Rattle.dots_activation.specs.Blocks.{blockIn, blockSays};
 ghost use Rattle.dots_integer.specs.Dots.{blockDotSays};
 ghost use Rattle.dots_integer_row.specs.Rows.{integerSays};
-ghost use Rattle.c_answers.specs.Answers.{laidOut};
+ghost use Rattle.c_answers.specs.Answers.{laidOut, laidOutBlocks};
 
 // `dots_activation::quantize_block_q8`, for C.
 #[no_mangle]
@@ -32,14 +32,16 @@ pub extern "C" fn jambharrow_dot_q4k_q8_block(
     bsums: &[i32; 8],
     n: usize,
     value: &mut f32,
+    blocks: &mut [usize; 2],
 ) -> u32
-    ensures { λ r. ⌜ (r, now (value .exit))
-        ≡ laidOut (blockDotSays FormatK.Q4K (now (w .entry)) (blockIn d (now (qs .entry)) (now (bsums .entry))) n)
-        (now (value .entry)) ⌝ }
+    ensures { λ r. ⌜ (r, (now (value .exit), now (blocks .exit)))
+        ≡ laidOutBlocks (blockDotSays FormatK.Q4K (now (w .entry)) (blockIn d (now (qs .entry)) (now (bsums .entry))) n)
+        (now (value .entry)) (now (blocks .entry)) ⌝ }
 {
-    lay_out(
+    lay_out_and_blocks(
         dots_integer::first_dot(FormatK::Q4K, w, d, qs, bsums, n),
         value,
+        blocks,
     )
 }
 
@@ -52,22 +54,30 @@ pub extern "C" fn jambharrow_dot_q6k_q8_block(
     bsums: &[i32; 8],
     n: usize,
     value: &mut f32,
+    blocks: &mut [usize; 2],
 ) -> u32
-    ensures { λ r. ⌜ (r, now (value .exit))
-        ≡ laidOut (blockDotSays FormatK.Q6K (now (w .entry)) (blockIn d (now (qs .entry)) (now (bsums .entry))) n)
-        (now (value .entry)) ⌝ }
+    ensures { λ r. ⌜ (r, (now (value .exit), now (blocks .exit)))
+        ≡ laidOutBlocks (blockDotSays FormatK.Q6K (now (w .entry)) (blockIn d (now (qs .entry)) (now (bsums .entry))) n)
+        (now (value .entry)) (now (blocks .entry)) ⌝ }
 {
-    lay_out(
+    lay_out_and_blocks(
         dots_integer::first_dot(FormatK::Q6K, w, d, qs, bsums, n),
         value,
+        blocks,
     )
 }
 
 // `dots_integer_row::integer_dot_q4k`, for C.
 #[no_mangle]
-pub extern "C" fn jambharrow_integer_dot_q4k(x: &[f32], w: &[u8], n: usize, value: &mut f32) -> u32
-    ensures { λ r. ⌜ (r, now (value .exit))
-        ≡ laidOut (integerSays FormatK.Q4K (now (x .entry)) (now (w .entry)) n) (now (value .entry)) ⌝ }
+pub extern "C" fn jambharrow_integer_dot_q4k(
+    x: &[f32],
+    w: &[u8],
+    n: usize,
+    value: &mut f32,
+    blocks: &mut [usize; 2],
+) -> u32
+    ensures { λ r. ⌜ (r, (now (value .exit), now (blocks .exit)))
+        ≡ laidOutBlocks (integerSays FormatK.Q4K (now (x .entry)) (now (w .entry)) n) (now (value .entry)) (now (blocks .entry)) ⌝ }
 {
-    lay_out(dots_integer_row::integer_dot_q4k(x, w, n), value)
+    lay_out_and_blocks(dots_integer_row::integer_dot_q4k(x, w, n), value, blocks)
 }

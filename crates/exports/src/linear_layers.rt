@@ -1,4 +1,5 @@
 // The layers.
+use c_answers::number_and_blocks;
 use c_answers::number_of;
 use dots_kept_row::Meeting;
 use layouts::Format;
@@ -9,7 +10,7 @@ ghost use Rattle.layers_shape.specs.Shapes.{shape};
 ghost use Rattle.layers_fused.specs.Says.{fusedLayerSays};
 ghost use Rattle.layers_cpu.specs.Says.{cpuSays};
 ghost use Rattle.layers_integer.specs.Says.{integerLayerSays};
-ghost use Rattle.c_answers.specs.Answers.{numbered};
+ghost use Rattle.c_answers.specs.Answers.{numbered, numberedBlocks};
 
 // `layers_fused::linear_q4_k_fused`, for C.
 #[no_mangle]
@@ -20,12 +21,16 @@ pub extern "C" fn jambharrow_linear_q4_k_fused(
     batch: usize,
     in_feat: usize,
     out_feat: usize,
+    blocks: &mut [usize; 2],
 ) -> u32
-    ensures { λ r. ⌜ (r, now (y .exit))
-        ≡ numbered (fusedLayerSays FormatK.Q4K (shape batch «in_feat» «out_feat») (now (x .entry)) (now (w .entry))
-        (now (y .entry))) ⌝ }
+    ensures { λ r. ⌜ (r, (now (y .exit), now (blocks .exit)))
+        ≡ numberedBlocks (fusedLayerSays FormatK.Q4K (shape batch «in_feat» «out_feat») (now (x .entry)) (now (w .entry))
+        (now (y .entry))) (now (blocks .entry)) ⌝ }
 {
-    number_of(layers_fused::linear_q4_k_fused(x, w, y, batch, in_feat, out_feat))
+    number_and_blocks(
+        layers_fused::linear_q4_k_fused(x, w, y, batch, in_feat, out_feat),
+        blocks,
+    )
 }
 
 // `layers_fused::linear_q6_k_fused`, for C.
@@ -37,12 +42,16 @@ pub extern "C" fn jambharrow_linear_q6_k_fused(
     batch: usize,
     in_feat: usize,
     out_feat: usize,
+    blocks: &mut [usize; 2],
 ) -> u32
-    ensures { λ r. ⌜ (r, now (y .exit))
-        ≡ numbered (fusedLayerSays FormatK.Q6K (shape batch «in_feat» «out_feat») (now (x .entry)) (now (w .entry))
-        (now (y .entry))) ⌝ }
+    ensures { λ r. ⌜ (r, (now (y .exit), now (blocks .exit)))
+        ≡ numberedBlocks (fusedLayerSays FormatK.Q6K (shape batch «in_feat» «out_feat») (now (x .entry)) (now (w .entry))
+        (now (y .entry))) (now (blocks .entry)) ⌝ }
 {
-    number_of(layers_fused::linear_q6_k_fused(x, w, y, batch, in_feat, out_feat))
+    number_and_blocks(
+        layers_fused::linear_q6_k_fused(x, w, y, batch, in_feat, out_feat),
+        blocks,
+    )
 }
 
 // `layers_integer::linear_q4_k_integer`, for C.
@@ -54,12 +63,16 @@ pub extern "C" fn jambharrow_linear_q4_k_integer(
     batch: usize,
     in_feat: usize,
     out_feat: usize,
+    blocks: &mut [usize; 2],
 ) -> u32
-    ensures { λ r. ⌜ (r, now (y .exit))
-        ≡ numbered (integerLayerSays FormatK.Q4K Meeting.Tree (shape batch «in_feat» «out_feat») (now (x .entry))
-        (now (w .entry)) (now (y .entry))) ⌝ }
+    ensures { λ r. ⌜ (r, (now (y .exit), now (blocks .exit)))
+        ≡ numberedBlocks (integerLayerSays FormatK.Q4K Meeting.Tree (shape batch «in_feat» «out_feat») (now (x .entry))
+        (now (w .entry)) (now (y .entry))) (now (blocks .entry)) ⌝ }
 {
-    number_of(layers_integer::linear_q4_k_integer(x, w, y, batch, in_feat, out_feat))
+    number_and_blocks(
+        layers_integer::linear_q4_k_integer(x, w, y, batch, in_feat, out_feat),
+        blocks,
+    )
 }
 
 // `layers_integer::linear_q6_k_integer`, for C.
@@ -71,12 +84,16 @@ pub extern "C" fn jambharrow_linear_q6_k_integer(
     batch: usize,
     in_feat: usize,
     out_feat: usize,
+    blocks: &mut [usize; 2],
 ) -> u32
-    ensures { λ r. ⌜ (r, now (y .exit))
-        ≡ numbered (integerLayerSays FormatK.Q6K Meeting.Tree (shape batch «in_feat» «out_feat») (now (x .entry))
-        (now (w .entry)) (now (y .entry))) ⌝ }
+    ensures { λ r. ⌜ (r, (now (y .exit), now (blocks .exit)))
+        ≡ numberedBlocks (integerLayerSays FormatK.Q6K Meeting.Tree (shape batch «in_feat» «out_feat») (now (x .entry))
+        (now (w .entry)) (now (y .entry))) (now (blocks .entry)) ⌝ }
 {
-    number_of(layers_integer::linear_q6_k_integer(x, w, y, batch, in_feat, out_feat))
+    number_and_blocks(
+        layers_integer::linear_q6_k_integer(x, w, y, batch, in_feat, out_feat),
+        blocks,
+    )
 }
 
 // `layers_integer::linear_q4_k_integer_rs`, for C.
@@ -88,12 +105,16 @@ pub extern "C" fn jambharrow_linear_q4_k_integer_rs(
     batch: usize,
     in_feat: usize,
     out_feat: usize,
+    blocks: &mut [usize; 2],
 ) -> u32
-    ensures { λ r. ⌜ (r, now (y .exit))
-        ≡ numbered (integerLayerSays FormatK.Q4K Meeting.Running (shape batch «in_feat» «out_feat») (now (x .entry))
-        (now (w .entry)) (now (y .entry))) ⌝ }
+    ensures { λ r. ⌜ (r, (now (y .exit), now (blocks .exit)))
+        ≡ numberedBlocks (integerLayerSays FormatK.Q4K Meeting.Running (shape batch «in_feat» «out_feat») (now (x .entry))
+        (now (w .entry)) (now (y .entry))) (now (blocks .entry)) ⌝ }
 {
-    number_of(layers_integer::linear_q4_k_integer_rs(x, w, y, batch, in_feat, out_feat))
+    number_and_blocks(
+        layers_integer::linear_q4_k_integer_rs(x, w, y, batch, in_feat, out_feat),
+        blocks,
+    )
 }
 
 // `layers_integer::linear_q6_k_integer_rs`, for C.
@@ -105,12 +126,16 @@ pub extern "C" fn jambharrow_linear_q6_k_integer_rs(
     batch: usize,
     in_feat: usize,
     out_feat: usize,
+    blocks: &mut [usize; 2],
 ) -> u32
-    ensures { λ r. ⌜ (r, now (y .exit))
-        ≡ numbered (integerLayerSays FormatK.Q6K Meeting.Running (shape batch «in_feat» «out_feat») (now (x .entry))
-        (now (w .entry)) (now (y .entry))) ⌝ }
+    ensures { λ r. ⌜ (r, (now (y .exit), now (blocks .exit)))
+        ≡ numberedBlocks (integerLayerSays FormatK.Q6K Meeting.Running (shape batch «in_feat» «out_feat») (now (x .entry))
+        (now (w .entry)) (now (y .entry))) (now (blocks .entry)) ⌝ }
 {
-    number_of(layers_integer::linear_q6_k_integer_rs(x, w, y, batch, in_feat, out_feat))
+    number_and_blocks(
+        layers_integer::linear_q6_k_integer_rs(x, w, y, batch, in_feat, out_feat),
+        blocks,
+    )
 }
 
 // `layers_cpu::linear_q4_k_cpu`, for C.

@@ -1,5 +1,6 @@
 // The stepped layer.
 use c_answers::lay_out_counts;
+use c_answers::number_and_blocks;
 use c_answers::number_of;
 use stepped_shape::Layer;
 ghost use mathlib.Core.Path.{_≡_};
@@ -7,7 +8,7 @@ ghost use Rattle.stepped_shape.specs.Layer.{layerOf, memory};
 ghost use Rattle.stepped_pieces.specs.Pieces.{pieceSays};
 ghost use Rattle.stepped_shape.specs.Progress.{ran};
 ghost use Rattle.stepped.specs.Says.{openSays, runSays, closeSays};
-ghost use Rattle.c_answers.specs.Answers.{numbered, laidOutBeside};
+ghost use Rattle.c_answers.specs.Answers.{numbered, numberedBlocks, laidOutBeside};
 
 // `stepped::open`, for C.
 #[no_mangle]
@@ -42,17 +43,21 @@ pub extern "C" fn jambharrow_piece(
     chunk: usize,
     slots: &mut [f32],
     marks: &mut [u8],
+    blocks: &mut [usize; 2],
 ) -> u32
-    ensures { λ r. ⌜ (r, memory (now (slots .exit)) (now (marks .exit)))
-        ≡ numbered (pieceSays (layerOf format «in_feat» «out_feat») (now (w .entry)) (now (x .entry)) row chunk
-        (memory (now (slots .entry)) (now (marks .entry)))) ⌝ }
+    ensures { λ r. ⌜ (r, (memory (now (slots .exit)) (now (marks .exit)), now (blocks .exit)))
+        ≡ numberedBlocks (pieceSays (layerOf format «in_feat» «out_feat») (now (w .entry)) (now (x .entry)) row chunk
+        (memory (now (slots .entry)) (now (marks .entry)))) (now (blocks .entry)) ⌝ }
 {
     let layer = Layer {
         format,
         in_feat,
         out_feat,
     };
-    number_of(stepped_pieces::piece(layer, w, x, row, chunk, slots, marks))
+    number_and_blocks(
+        stepped_pieces::piece(layer, w, x, row, chunk, slots, marks),
+        blocks,
+    )
 }
 
 // `stepped::run`, for C.
@@ -68,18 +73,24 @@ pub extern "C" fn jambharrow_run(
     marks: &mut [u8],
     done: &mut usize,
     left: &mut usize,
+    blocks: &mut [usize; 2],
 ) -> u32
-    ensures { λ r. ⌜ (r, (ran (now (done .exit)) (now (left .exit)), memory (now (slots .exit)) (now (marks .exit))))
+    ensures { λ r. ⌜ (r, (ran (now (done .exit)) (now (left .exit)), memory (now (slots .exit)) (now (marks .exit)), now (blocks .exit)))
         ≡ laidOutBeside
         (runSays (layerOf format «in_feat» «out_feat») (now (w .entry)) (now (x .entry)) budget
-        (memory (now (slots .entry)) (now (marks .entry)))) (ran (now (done .entry)) (now (left .entry))) ⌝ }
+        (memory (now (slots .entry)) (now (marks .entry)))) (ran (now (done .entry)) (now (left .entry))) (now (blocks .entry)) ⌝ }
 {
     let layer = Layer {
         format,
         in_feat,
         out_feat,
     };
-    lay_out_counts(stepped::run(layer, w, x, budget, slots, marks), done, left)
+    lay_out_counts(
+        stepped::run(layer, w, x, budget, slots, marks),
+        done,
+        left,
+        blocks,
+    )
 }
 
 // `stepped::close`, for C.

@@ -5,7 +5,7 @@ use Rattle.exports.proofs.stepped_layer.jambharrow_run.Statement.{state
 use Rattle.exports.proofs.stepped_layer.jambharrow_run.Tie as tie
 
 returns : tie.Need-returns
-returns c = ran-handed _ _ _ _ _ _ (c .lay-out-counts .ensures) (c .before .before .before .before .before .before .before .run .ensures)
+returns c = ran-handed _ _ _ _ _ _ _ _ (c .lay-out-counts .ensures) (c .before .before .before .before .before .before .before .before .run .ensures)
 
 pub jambharrow-run-spec : {M : Type 1} → statement M
 jambharrow-run-spec =

@@ -1,0 +1,2 @@
+-- What the proofs of `c_answers` share.
+pub mod Counted
