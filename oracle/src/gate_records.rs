@@ -1,7 +1,9 @@
 //! The record files that the programs of the gate are run on, and what they are to print.
 use crate::record_cases;
 use crate::record_files::{transcript, MOST_IN_FEAT, MOST_OUT_FEAT};
-use crate::record_makers::{example, layer_of, readings, record, warm_up_readings, window, FORMATS};
+use crate::record_makers::{
+    example, layer_of, readings, record, warm_up_readings, window, FORMATS,
+};
 use crate::sample::count;
 use oracle::inputs::{reading, trained_scale};
 use oracle::random::Random;

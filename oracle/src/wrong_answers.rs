@@ -44,12 +44,7 @@ const fn wrong(call: &'static str, record: usize, part: usize) -> WrongAnswer {
 }
 
 /// The answer to calls of which one is refused, as if that were no matter.
-const fn refused(
-    call: &'static str,
-    record: usize,
-    part: usize,
-    untouched: usize,
-) -> WrongAnswer {
+const fn refused(call: &'static str, record: usize, part: usize, untouched: usize) -> WrongAnswer {
     WrongAnswer {
         call,
         record,
