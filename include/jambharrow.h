@@ -8,12 +8,13 @@
  * How a call is written. A call has the name of the function of quant.rs that it answers for,
  * behind `jambharrow_`, and its parameters in that function's order. The four calls of the stepped
  * layer, which quant.rs does not have, are jambharrow_open, _piece, _run and _close. A slice is a
- * pointer and, right behind it, how many elements it has. Sizes and counts are size_t.
+ * pointer and, right behind it, how many elements it has. Sizes and counts are jambharrow_size, of
+ * 64 bits on every processor.
  *
  * What a pointer is. A slice's pointer may be null where its number of elements is 0; every other
  * pointer is to the one value or the array that its type says, and may not be null. A pointer is
- * aligned as C aligns its type: floats and 32-bit numbers at 4 bytes, bytes anywhere. Memory that
- * a call writes must not overlap any other that it is given.
+ * aligned as C aligns its type: sizes at 8 bytes, floats and 32-bit numbers at 4, bytes anywhere.
+ * Memory that a call writes must not overlap any other that it is given.
  *
  * Byte order. Packed bytes are as they lie in a weight file, with little-endian fields, on every
  * machine. Floats and numbers are the machine's own.
@@ -23,9 +24,16 @@
  * floating-point registers.
  *
  * How a call says no. A call that can refuse returns JAMBHARROW_DONE, or the number of the one
- * reason of enum jambharrow_refusal for which it refused. A refusal leaves all lent memory as it
- * found it. A value that such a call works out goes through a pointer, which is written only where
- * JAMBHARROW_DONE is returned. A call that returns its value itself never refuses.
+ * reason of enum jambharrow_refusal for which it refused. A refusal leaves all lent memory but
+ * `blocks` as it found it. A value that such a call works out goes through a pointer, which is
+ * written only where JAMBHARROW_DONE is returned. A call that returns its value itself never
+ * refuses.
+ *
+ * How short weights are. A call whose last parameter is `blocks` says beside
+ * JAMBHARROW_WEIGHTS_SHORT how many blocks of weights there are and how many it needs. blocks[0] is
+ * found: the whole blocks in the bytes that it was given. blocks[1] is needed: 1 for the dot of a
+ * block, n / 256 rounded up for the dot of a row, and out_feat * (in_feat / 256) for a layer, a
+ * piece and a run. Both are written where JAMBHARROW_WEIGHTS_SHORT is returned, and nowhere else.
  *
  * NaN. Every other result has the bits that its contract says. Where a result is a NaN, the bits
  * may be those of any NaN.
@@ -36,12 +44,20 @@
 #ifndef JAMBHARROW_H
 #define JAMBHARROW_H
 
-#include <stddef.h>
 #include <stdint.h>
+
+/* The version of this interface: the major number is another where callers have to change, and the
+ * minor one where there is more to call. */
+#define JAMBHARROW_VERSION_MAJOR 2
+#define JAMBHARROW_VERSION_MINOR 0
 
 #ifdef __cplusplus
 extern "C" {
 #endif
+
+/* A size or a count, of 64 bits on every processor, as in the proofs. Where a size_t is shorter, it
+ * is widened as it is handed over; a pointer to one is no pointer to this, and compilers say so. */
+typedef uint64_t jambharrow_size;
 
 /* What a call that can refuse returns: that it did its work, or why it did not. */
 enum jambharrow_refusal {
@@ -51,7 +67,7 @@ enum jambharrow_refusal {
     JAMBHARROW_NOT_WHOLE_BLOCKS = 1,
     /* A float count or in_feat is not a multiple of the block's values. */
     JAMBHARROW_NOT_A_MULTIPLE = 2,
-    /* Fewer weights than needed; in the `_cpu` layers, any other weight length. */
+    /* Fewer weights than needed. */
     JAMBHARROW_WEIGHTS_SHORT = 3,
     /* Fewer readings than needed; in the `_cpu` layers, any other length; more than 256 for one
      * activation block. */
@@ -74,8 +90,34 @@ enum jambharrow_refusal {
     /* Unknown record kind or weight format. */
     JAMBHARROW_UNKNOWN = 12,
     /* A window still has warm-up readings. */
-    JAMBHARROW_WARM_UP = 13
+    JAMBHARROW_WARM_UP = 13,
+    /* More weights than needed, in a `_cpu` layer. */
+    JAMBHARROW_WEIGHTS_LONG = 14
 };
+
+/* The words for a number that a call returned, as a static string. A number that is none of
+ * enum jambharrow_refusal has words of its own. */
+static inline const char *jambharrow_refusal_words(uint32_t number)
+{
+    switch (number) {
+    case JAMBHARROW_DONE: return "done";
+    case JAMBHARROW_NOT_WHOLE_BLOCKS: return "packed bytes are not whole blocks";
+    case JAMBHARROW_NOT_A_MULTIPLE: return "not a multiple of the block's values";
+    case JAMBHARROW_WEIGHTS_SHORT: return "fewer weights than needed";
+    case JAMBHARROW_READINGS_SHORT: return "fewer readings than needed";
+    case JAMBHARROW_ROOM_SHORT: return "output, scratch, slots or marks too short";
+    case JAMBHARROW_TOO_LARGE: return "over a size that the call takes";
+    case JAMBHARROW_WRONG_SUMS: return "the block's sums are not the sums of its 32s";
+    case JAMBHARROW_OUTSIDE: return "a row or chunk outside the layer";
+    case JAMBHARROW_ALREADY_DONE: return "that piece is already done";
+    case JAMBHARROW_PIECE_OPEN: return "a piece of the row is open";
+    case JAMBHARROW_MALFORMED: return "a record is malformed";
+    case JAMBHARROW_UNKNOWN: return "unknown record kind or weight format";
+    case JAMBHARROW_WARM_UP: return "the window still has warm-up readings";
+    case JAMBHARROW_WEIGHTS_LONG: return "more weights than needed";
+    default: return "a number that is not in the table";
+    }
+}
 
 /* The sizes that a call takes; over one of them it says JAMBHARROW_TOO_LARGE. */
 
@@ -111,27 +153,27 @@ uint16_t jambharrow_f32_to_f16(uint32_t bits);
  * s, d and dmin are the block's scales, each a binary16 widened by jambharrow_f16_to_f32. */
 
 /* Q4_0: a block is 18 bytes, s and 16 bytes of nibbles, and has 32 values, s * (nibble - 8). */
-uint32_t jambharrow_dequantize_q4_0(const uint8_t *bytes, size_t bytes_len,
-                                    float *out, size_t out_len);
+uint32_t jambharrow_dequantize_q4_0(const uint8_t *bytes, jambharrow_size bytes_len,
+                                    float *out, jambharrow_size out_len);
 
 /* Q5_0: a block is 22 bytes, s, 32 high bits and 16 bytes of nibbles, and has 32 values,
  * s * (high bit and nibble - 16). */
-uint32_t jambharrow_dequantize_q5_0(const uint8_t *bytes, size_t bytes_len,
-                                    float *out, size_t out_len);
+uint32_t jambharrow_dequantize_q5_0(const uint8_t *bytes, jambharrow_size bytes_len,
+                                    float *out, jambharrow_size out_len);
 
 /* Q8_0: a block is 34 bytes, s and 32 signed bytes, and has 32 values, s * byte. */
-uint32_t jambharrow_dequantize_q8_0(const uint8_t *bytes, size_t bytes_len,
-                                    float *out, size_t out_len);
+uint32_t jambharrow_dequantize_q8_0(const uint8_t *bytes, jambharrow_size bytes_len,
+                                    float *out, jambharrow_size out_len);
 
 /* Q4_K: a block is 144 bytes, d, dmin, eight scales and minimums of six bits and 128 bytes of
  * nibbles, and has 256 values, (d * scale) * nibble - (dmin * minimum). */
-uint32_t jambharrow_dequantize_q4_k(const uint8_t *bytes, size_t bytes_len,
-                                    float *out, size_t out_len);
+uint32_t jambharrow_dequantize_q4_k(const uint8_t *bytes, jambharrow_size bytes_len,
+                                    float *out, jambharrow_size out_len);
 
 /* Q6_K: a block is 210 bytes, 256 quants of six bits, 16 signed scales and d, and has 256 values,
  * (d * scale) * (quant - 32). */
-uint32_t jambharrow_dequantize_q6_k(const uint8_t *bytes, size_t bytes_len,
-                                    float *out, size_t out_len);
+uint32_t jambharrow_dequantize_q6_k(const uint8_t *bytes, jambharrow_size bytes_len,
+                                    float *out, jambharrow_size out_len);
 
 /* Block quantizers: 32 readings become a scale and 32 small integers.
  *
@@ -143,12 +185,12 @@ uint32_t jambharrow_dequantize_q6_k(const uint8_t *bytes, size_t bytes_len,
  *   JAMBHARROW_ROOM_SHORT       fewer places in `out` than the blocks have bytes. */
 
 /* Q4_0: 18 bytes to 32 readings. The scale is the first reading of largest magnitude over -8. */
-uint32_t jambharrow_quantize_q4_0(const float *data, size_t data_len,
-                                  uint8_t *out, size_t out_len);
+uint32_t jambharrow_quantize_q4_0(const float *x, jambharrow_size x_len,
+                                  uint8_t *out, jambharrow_size out_len);
 
 /* Q8_0: 34 bytes to 32 readings. The scale is the largest magnitude over 127. */
-uint32_t jambharrow_quantize_q8_0(const float *data, size_t data_len,
-                                  uint8_t *out, size_t out_len);
+uint32_t jambharrow_quantize_q8_0(const float *x, jambharrow_size x_len,
+                                  uint8_t *out, jambharrow_size out_len);
 
 /* Fixed-order sums: each adds in one order, so that a result has one set of bits.
  *
@@ -161,25 +203,28 @@ uint32_t jambharrow_quantize_q8_0(const float *data, size_t data_len,
  * refuses, in this order, with
  *   JAMBHARROW_TOO_LARGE       more than JAMBHARROW_MOST_FLOATS readings;
  *   JAMBHARROW_WEIGHTS_SHORT   fewer weights than readings. */
-uint32_t jambharrow_canonical_chunk(const float *x, size_t x_len, const float *w, size_t w_len,
+uint32_t jambharrow_canonical_chunk(const float *x, jambharrow_size x_len,
+                                    const float *w, jambharrow_size w_len,
                                     float *value);
 
 /* The tree over a slice of any length, worked in the slice: each round fills the front half and
  * leaves the places behind it as they are. It never refuses. */
-float jambharrow_canonical_combine(float *part, size_t part_len);
+float jambharrow_canonical_combine(float *part, jambharrow_size part_len);
 
 /* The dot of the first n readings and weights, as a row; what stands behind them is not looked at.
  * It refuses with JAMBHARROW_TOO_LARGE where n is over JAMBHARROW_MOST_IN; then n = 0 is answered
  * with +0.0; then it refuses, in this order, with
  *   JAMBHARROW_WEIGHTS_SHORT    fewer than n weights;
  *   JAMBHARROW_READINGS_SHORT   fewer than n readings. */
-uint32_t jambharrow_canonical_dot_pub(const float *x, size_t x_len, const float *w, size_t w_len,
-                                      size_t n, float *value);
+uint32_t jambharrow_canonical_dot_pub(const float *x, jambharrow_size x_len,
+                                      const float *w, jambharrow_size w_len,
+                                      jambharrow_size n, float *value);
 
 /* The sum of the first n readings, as a row; what stands behind them is not looked at. It refuses
  * with JAMBHARROW_TOO_LARGE where n is over JAMBHARROW_MOST_IN; then n = 0 is answered with +0.0;
  * then it refuses with JAMBHARROW_READINGS_SHORT where there are fewer than n readings. */
-uint32_t jambharrow_canonical_sum_pub(const float *x, size_t x_len, size_t n, float *value);
+uint32_t jambharrow_canonical_sum_pub(const float *x, jambharrow_size x_len,
+                                      jambharrow_size n, float *value);
 
 /* Activation blocks: up to 256 readings become small integers with one float scale, and a dot over
  * them is a sum of whole numbers, which no order of adding changes.
@@ -191,7 +236,7 @@ uint32_t jambharrow_canonical_sum_pub(const float *x, size_t x_len, size_t n, fl
  * the inverse of d, to the nearest whole number, within -127 to 127, and 0 past the readings. It
  * refuses with JAMBHARROW_READINGS_SHORT where there are more than 256 readings, and then writes
  * none of the three parts. It needs at most 2,048 bytes of stack. */
-uint32_t jambharrow_quantize_block_q8(const float *x, size_t x_len,
+uint32_t jambharrow_quantize_block_q8(const float *x, jambharrow_size x_len,
                                       float *d, int8_t qs[256], int32_t bsums[8]);
 
 /* The dot of the Q4_K block at the front of w and an activation block:
@@ -201,17 +246,17 @@ uint32_t jambharrow_quantize_block_q8(const float *x, size_t x_len,
  * this order, with
  *   JAMBHARROW_WEIGHTS_SHORT   fewer than 144 bytes;
  *   JAMBHARROW_WRONG_SUMS      sums that are not the sums of the block's 32s. */
-uint32_t jambharrow_dot_q4k_q8_block(const uint8_t *w, size_t w_len,
+uint32_t jambharrow_dot_q4k_q8_block(const uint8_t *w, jambharrow_size w_len,
                                      float d, const int8_t qs[256], const int32_t bsums[8],
-                                     size_t n, float *value);
+                                     jambharrow_size n, float *value, jambharrow_size blocks[2]);
 
 /* The dot of the Q6_K block at the front of w and an activation block: (w's d * d) * B, where B is
  * the sum of scale * (quant of w - 32) * quant over the places below n, above 256 taken as 256. The
  * sums are not looked at, nor are bytes behind the block. It needs at most 2,048 bytes of stack. It
  * refuses with JAMBHARROW_WEIGHTS_SHORT where there are fewer than 210 bytes. */
-uint32_t jambharrow_dot_q6k_q8_block(const uint8_t *w, size_t w_len,
+uint32_t jambharrow_dot_q6k_q8_block(const uint8_t *w, jambharrow_size w_len,
                                      float d, const int8_t qs[256], const int32_t bsums[8],
-                                     size_t n, float *value);
+                                     jambharrow_size n, float *value, jambharrow_size blocks[2]);
 
 /* Dots of a row: the first n readings, and the first n weights of packed blocks.
  *
@@ -227,19 +272,21 @@ uint32_t jambharrow_dot_q6k_q8_block(const uint8_t *w, size_t w_len,
 /* Q4_K, in whole numbers: each 256 readings are made an activation block, the last of fewer where n
  * ends inside it, and the dots of the blocks, as jambharrow_dot_q4k_q8_block has them, meet in the
  * tree. */
-uint32_t jambharrow_integer_dot_q4k(const float *x, size_t x_len, const uint8_t *w, size_t w_len,
-                                    size_t n, float *value);
+uint32_t jambharrow_integer_dot_q4k(const float *x, jambharrow_size x_len,
+                                    const uint8_t *w, jambharrow_size w_len,
+                                    jambharrow_size n, float *value, jambharrow_size blocks[2]);
 
 /* Q4_K, fused: what jambharrow_canonical_dot_pub answers for the decoded weights, with no room for
  * them. */
-uint32_t jambharrow_canonical_dot_q4k_fused(const float *x, size_t x_len,
-                                            const uint8_t *w, size_t w_len,
-                                            size_t n, float *value);
+uint32_t jambharrow_canonical_dot_q4k_fused(const float *x, jambharrow_size x_len,
+                                            const uint8_t *w, jambharrow_size w_len,
+                                            jambharrow_size n, float *value,
+                                            jambharrow_size blocks[2]);
 
 /* Q6_K, fused: the same. */
-uint32_t jambharrow_q6k_fused_f32_dot(const float *x, size_t x_len,
-                                      const uint8_t *w, size_t w_len,
-                                      size_t n, float *value);
+uint32_t jambharrow_q6k_fused_f32_dot(const float *x, jambharrow_size x_len,
+                                      const uint8_t *w, jambharrow_size w_len,
+                                      jambharrow_size n, float *value, jambharrow_size blocks[2]);
 
 /* Layers: every row of readings against every row of packed weights.
  *
@@ -258,42 +305,50 @@ uint32_t jambharrow_q6k_fused_f32_dot(const float *x, size_t x_len,
 
 /* Q4_K, fused: an output is jambharrow_canonical_dot_q4k_fused of its rows. It needs at most 4,096
  * bytes of stack. */
-uint32_t jambharrow_linear_q4_k_fused(const float *x, size_t x_len, const uint8_t *w, size_t w_len,
-                                      float *y, size_t y_len,
-                                      size_t batch, size_t in_feat, size_t out_feat);
+uint32_t jambharrow_linear_q4_k_fused(const float *x, jambharrow_size x_len,
+                                      const uint8_t *w, jambharrow_size w_len,
+                                      float *y, jambharrow_size y_len,
+                                      jambharrow_size batch, jambharrow_size in_feat,
+                                      jambharrow_size out_feat, jambharrow_size blocks[2]);
 
 /* Q6_K, fused: the same by jambharrow_q6k_fused_f32_dot, with as much stack. */
-uint32_t jambharrow_linear_q6_k_fused(const float *x, size_t x_len, const uint8_t *w, size_t w_len,
-                                      float *y, size_t y_len,
-                                      size_t batch, size_t in_feat, size_t out_feat);
+uint32_t jambharrow_linear_q6_k_fused(const float *x, jambharrow_size x_len,
+                                      const uint8_t *w, jambharrow_size w_len,
+                                      float *y, jambharrow_size y_len,
+                                      jambharrow_size batch, jambharrow_size in_feat,
+                                      jambharrow_size out_feat, jambharrow_size blocks[2]);
 
 /* Q4_K, in whole numbers: each row of readings is made activation blocks once, and an output is the
  * dots of its rows' blocks, as jambharrow_dot_q4k_q8_block has them, met in the tree. The blocks of
  * the longest row stand on the stack: it needs at most 163,840 bytes of it, whatever in_feat is. */
-uint32_t jambharrow_linear_q4_k_integer(const float *x, size_t x_len,
-                                        const uint8_t *w, size_t w_len,
-                                        float *y, size_t y_len,
-                                        size_t batch, size_t in_feat, size_t out_feat);
+uint32_t jambharrow_linear_q4_k_integer(const float *x, jambharrow_size x_len,
+                                        const uint8_t *w, jambharrow_size w_len,
+                                        float *y, jambharrow_size y_len,
+                                        jambharrow_size batch, jambharrow_size in_feat,
+                                        jambharrow_size out_feat, jambharrow_size blocks[2]);
 
 /* Q6_K, in whole numbers: the same by jambharrow_dot_q6k_q8_block, with as much stack. */
-uint32_t jambharrow_linear_q6_k_integer(const float *x, size_t x_len,
-                                        const uint8_t *w, size_t w_len,
-                                        float *y, size_t y_len,
-                                        size_t batch, size_t in_feat, size_t out_feat);
+uint32_t jambharrow_linear_q6_k_integer(const float *x, jambharrow_size x_len,
+                                        const uint8_t *w, jambharrow_size w_len,
+                                        float *y, jambharrow_size y_len,
+                                        jambharrow_size batch, jambharrow_size in_feat,
+                                        jambharrow_size out_feat, jambharrow_size blocks[2]);
 
 /* Q4_K, in whole numbers as jambharrow_linear_q4_k_integer and with as much stack, but the dots of
  * the blocks meet in a running sum from +0.0. */
-uint32_t jambharrow_linear_q4_k_integer_rs(const float *x, size_t x_len,
-                                           const uint8_t *w, size_t w_len,
-                                           float *y, size_t y_len,
-                                           size_t batch, size_t in_feat, size_t out_feat);
+uint32_t jambharrow_linear_q4_k_integer_rs(const float *x, jambharrow_size x_len,
+                                           const uint8_t *w, jambharrow_size w_len,
+                                           float *y, jambharrow_size y_len,
+                                           jambharrow_size batch, jambharrow_size in_feat,
+                                           jambharrow_size out_feat, jambharrow_size blocks[2]);
 
 /* Q6_K, in whole numbers as jambharrow_linear_q6_k_integer and with as much stack, but the dots of
  * the blocks meet in a running sum from +0.0. */
-uint32_t jambharrow_linear_q6_k_integer_rs(const float *x, size_t x_len,
-                                           const uint8_t *w, size_t w_len,
-                                           float *y, size_t y_len,
-                                           size_t batch, size_t in_feat, size_t out_feat);
+uint32_t jambharrow_linear_q6_k_integer_rs(const float *x, jambharrow_size x_len,
+                                           const uint8_t *w, jambharrow_size w_len,
+                                           float *y, jambharrow_size y_len,
+                                           jambharrow_size batch, jambharrow_size in_feat,
+                                           jambharrow_size out_feat, jambharrow_size blocks[2]);
 
 /* The `_cpu` layers decode each row of weights into `scratch`, and an output is
  * jambharrow_canonical_dot_pub of its rows. Afterwards the first in_feat places of scratch hold the
@@ -305,27 +360,38 @@ uint32_t jambharrow_linear_q6_k_integer_rs(const float *x, size_t x_len,
  *   JAMBHARROW_READINGS_SHORT     any other count of readings than batch * in_feat;
  *   JAMBHARROW_ROOM_SHORT         any other count of places in y than batch * out_feat;
  *   JAMBHARROW_NOT_WHOLE_BLOCKS   bytes that are not whole blocks;
- *   JAMBHARROW_WEIGHTS_SHORT      blocks of any other count of weights than out_feat * in_feat;
+ *   JAMBHARROW_WEIGHTS_SHORT      blocks of fewer weights than out_feat * in_feat;
+ *   JAMBHARROW_WEIGHTS_LONG       blocks of more, in its place;
  *   JAMBHARROW_ROOM_SHORT         fewer than in_feat places in scratch. */
-uint32_t jambharrow_linear_q4_k_cpu(const float *x, size_t x_len, const uint8_t *w, size_t w_len,
-                                    float *y, size_t y_len, float *scratch, size_t scratch_len,
-                                    size_t batch, size_t in_feat, size_t out_feat);
+uint32_t jambharrow_linear_q4_k_cpu(const float *x, jambharrow_size x_len,
+                                    const uint8_t *w, jambharrow_size w_len,
+                                    float *y, jambharrow_size y_len,
+                                    float *scratch, jambharrow_size scratch_len,
+                                    jambharrow_size batch, jambharrow_size in_feat,
+                                    jambharrow_size out_feat);
 
 /* Q6_K: the same. */
-uint32_t jambharrow_linear_q6_k_cpu(const float *x, size_t x_len, const uint8_t *w, size_t w_len,
-                                    float *y, size_t y_len, float *scratch, size_t scratch_len,
-                                    size_t batch, size_t in_feat, size_t out_feat);
+uint32_t jambharrow_linear_q6_k_cpu(const float *x, jambharrow_size x_len,
+                                    const uint8_t *w, jambharrow_size w_len,
+                                    float *y, jambharrow_size y_len,
+                                    float *scratch, jambharrow_size scratch_len,
+                                    jambharrow_size batch, jambharrow_size in_feat,
+                                    jambharrow_size out_feat);
 
 /* Q4_0, whose rows are whole blocks. It refuses, in this order, with
  *   JAMBHARROW_TOO_LARGE        as the layers above;
  *   JAMBHARROW_NOT_A_MULTIPLE   an in_feat that is not a multiple of 32;
- *   JAMBHARROW_WEIGHTS_SHORT    any other count of bytes than out_feat rows have;
+ *   JAMBHARROW_WEIGHTS_SHORT    fewer bytes than out_feat rows have;
+ *   JAMBHARROW_WEIGHTS_LONG     more, in its place;
  *   JAMBHARROW_READINGS_SHORT   any other count of readings than batch * in_feat;
  *   JAMBHARROW_ROOM_SHORT       any other count of places in y than batch * out_feat;
  *   JAMBHARROW_ROOM_SHORT       fewer than in_feat places in scratch. */
-uint32_t jambharrow_linear_q4_0_cpu(const float *x, size_t x_len, const uint8_t *w, size_t w_len,
-                                    float *y, size_t y_len, float *scratch, size_t scratch_len,
-                                    size_t batch, size_t in_feat, size_t out_feat);
+uint32_t jambharrow_linear_q4_0_cpu(const float *x, jambharrow_size x_len,
+                                    const uint8_t *w, jambharrow_size w_len,
+                                    float *y, jambharrow_size y_len,
+                                    float *scratch, jambharrow_size scratch_len,
+                                    jambharrow_size batch, jambharrow_size in_feat,
+                                    jambharrow_size out_feat);
 
 /* The stepped layer: a layer worked one piece of one row at a time, so that the work may stop after
  * any call and go on at a later one.
@@ -361,38 +427,44 @@ enum jambharrow_format {
 };
 
 /* Begins the work: the mark of every piece becomes 0, and its slot +0.0. */
-uint32_t jambharrow_open(uint8_t format, size_t in_feat, size_t out_feat,
-                         float *slots, size_t slots_len, uint8_t *marks, size_t marks_len);
+uint32_t jambharrow_open(uint8_t format, jambharrow_size in_feat, jambharrow_size out_feat,
+                         float *slots, jambharrow_size slots_len,
+                         uint8_t *marks, jambharrow_size marks_len);
 
 /* Works one piece: its slot becomes the sum of its chunk of the row, and its mark 1. At the end it
  * refuses, in this order, with
  *   JAMBHARROW_OUTSIDE        a row or a chunk that the layer does not have;
  *   JAMBHARROW_ALREADY_DONE   a piece whose mark is not 0.
  * It needs at most 4,096 bytes of stack. */
-uint32_t jambharrow_piece(uint8_t format, size_t in_feat, size_t out_feat,
-                          const uint8_t *w, size_t w_len, const float *x, size_t x_len,
-                          size_t row, size_t chunk,
-                          float *slots, size_t slots_len, uint8_t *marks, size_t marks_len);
+uint32_t jambharrow_piece(uint8_t format, jambharrow_size in_feat, jambharrow_size out_feat,
+                          const uint8_t *w, jambharrow_size w_len,
+                          const float *x, jambharrow_size x_len,
+                          jambharrow_size row, jambharrow_size chunk,
+                          float *slots, jambharrow_size slots_len,
+                          uint8_t *marks, jambharrow_size marks_len, jambharrow_size blocks[2]);
 
 /* Works the next open pieces in row order, chunks rising, at most `budget`. `done` is how many it
  * worked, the smaller of `budget` and the pieces that were open, and `left` how many stay open.
  * Both are written only where JAMBHARROW_DONE is returned. It needs at most 4,096 bytes of
  * stack. */
-uint32_t jambharrow_run(uint8_t format, size_t in_feat, size_t out_feat,
-                        const uint8_t *w, size_t w_len, const float *x, size_t x_len,
-                        size_t budget,
-                        float *slots, size_t slots_len, uint8_t *marks, size_t marks_len,
-                        size_t *done, size_t *left);
+uint32_t jambharrow_run(uint8_t format, jambharrow_size in_feat, jambharrow_size out_feat,
+                        const uint8_t *w, jambharrow_size w_len,
+                        const float *x, jambharrow_size x_len,
+                        jambharrow_size budget,
+                        float *slots, jambharrow_size slots_len,
+                        uint8_t *marks, jambharrow_size marks_len,
+                        jambharrow_size *done, jambharrow_size *left, jambharrow_size blocks[2]);
 
 /* Writes the output of a row at its place in y: the row's slots, met in the tree, +0.0 where
  * in_feat is 0. Slots and marks stay, and a row may be closed again. At the end it refuses, in this
  * order, with
  *   JAMBHARROW_OUTSIDE      a row that the layer does not have;
  *   JAMBHARROW_PIECE_OPEN   a row of which a piece is open. */
-uint32_t jambharrow_close(uint8_t format, size_t in_feat, size_t out_feat, size_t row,
-                          const float *slots, size_t slots_len,
-                          const uint8_t *marks, size_t marks_len,
-                          float *y, size_t y_len);
+uint32_t jambharrow_close(uint8_t format, jambharrow_size in_feat, jambharrow_size out_feat,
+                          jambharrow_size row,
+                          const float *slots, jambharrow_size slots_len,
+                          const uint8_t *marks, jambharrow_size marks_len,
+                          float *y, jambharrow_size y_len);
 
 #ifdef __cplusplus
 }
