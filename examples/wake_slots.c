@@ -8,6 +8,7 @@
  *     cc -std=c99 -o wake_slots examples/wake_slots.c target/staticlib/libexports.a
  */
 #include <inttypes.h>
+#include <stddef.h>
 #include <stdio.h>
 #include <string.h>
 
@@ -65,13 +66,13 @@ static uint32_t begin(void)
     return no;
 }
 
-/* One wake slot: at most BUDGET pieces. */
-static uint32_t wake(size_t *done, size_t *left)
+/* One wake slot: at most BUDGET pieces. `blocks` tells how short the weights are, where they are. */
+static uint32_t wake(jambharrow_size *done, jambharrow_size *left, jambharrow_size blocks[2])
 {
     struct kept now = storage;
     uint32_t no = jambharrow_run(JAMBHARROW_Q4_K, IN_FEAT, OUT_FEAT,
                                  weights, sizeof weights, readings, IN_FEAT, BUDGET,
-                                 now.slots, PIECES, now.marks, PIECES, done, left);
+                                 now.slots, PIECES, now.marks, PIECES, done, left, blocks);
     if (no == JAMBHARROW_DONE) {
         storage = now;
     }
@@ -105,9 +106,10 @@ static size_t same_in_one_go(const float y[OUT_FEAT])
     size_t same = 0;
     for (size_t row = 0; row < OUT_FEAT; row++) {
         float value;
+        jambharrow_size blocks[2];
         uint32_t no = jambharrow_canonical_dot_q4k_fused(readings, IN_FEAT,
                                                          weights + row * ROW_BYTES, ROW_BYTES,
-                                                         IN_FEAT, &value);
+                                                         IN_FEAT, &value, blocks);
         if (no == JAMBHARROW_DONE && bits_of(value) == bits_of(y[row])) {
             same++;
         }
@@ -117,15 +119,27 @@ static size_t same_in_one_go(const float y[OUT_FEAT])
 
 static int refused(const char *call, uint32_t no)
 {
-    printf("%s refused %" PRIu32 "\n", call, no);
+    printf("%s refused %" PRIu32 ": %s\n", call, no, jambharrow_refusal_words(no));
+    return 1;
+}
+
+/* Short weights are told by their two counts, which say what to look for. */
+static int refused_run(uint32_t no, const jambharrow_size blocks[2])
+{
+    if (no != JAMBHARROW_WEIGHTS_SHORT) {
+        return refused("run", no);
+    }
+    printf("run refused %" PRIu32 ": found %lu whole blocks of weights, needed %lu\n",
+           no, (unsigned long)blocks[0], (unsigned long)blocks[1]);
     return 1;
 }
 
 int main(void)
 {
     float y[OUT_FEAT];
-    size_t done = 0;
-    size_t left = PIECES;
+    jambharrow_size done = 0;
+    jambharrow_size left = PIECES;
+    jambharrow_size blocks[2];
     uint32_t no;
 
     make_up();
@@ -134,19 +148,20 @@ int main(void)
         return refused("open", no);
     }
     for (unsigned slot = 1; left > 0; slot++) {
-        no = wake(&done, &left);
+        no = wake(&done, &left, blocks);
         if (no != JAMBHARROW_DONE) {
-            return refused("run", no);
+            return refused_run(no, blocks);
         }
-        printf("wake %u: %zu done, %zu left\n", slot, done, left);
+        printf("wake %u: %lu done, %lu left\n",
+               slot, (unsigned long)done, (unsigned long)left);
     }
     no = finish(y);
     if (no != JAMBHARROW_DONE) {
         return refused("close", no);
     }
     for (size_t row = 0; row < OUT_FEAT; row++) {
-        printf("output %zu: %08" PRIX32 "\n", row, bits_of(y[row]));
+        printf("output %lu: %08" PRIX32 "\n", (unsigned long)row, bits_of(y[row]));
     }
-    printf("in one go: %zu of %d the same\n", same_in_one_go(y), OUT_FEAT);
+    printf("in one go: %lu of %d the same\n", (unsigned long)same_in_one_go(y), OUT_FEAT);
     return 0;
 }
