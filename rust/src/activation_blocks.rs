@@ -1,8 +1,8 @@
 //! Activation blocks: up to 256 readings become small integers with one float scale, and a dot over
 //! them is a sum of whole numbers, which no order of adding changes.
-use crate::refusal::{answer, done, Refusal};
+use crate::refusal::{counted_answer, done, Refusal};
 use crate::row_dot::row_dot;
-use crate::sys::{self, BlockDot};
+use crate::sys::{self, BlockDot, Size};
 
 /// An activation block.
 #[derive(Debug, Clone, Copy, PartialEq)]
@@ -46,16 +46,29 @@ pub fn quantize_block_q8_into(
 ) -> Result<(), Refusal> {
     // SAFETY: the pointer and the length are a slice's, and each place that is written is lent to
     // this call alone.
-    done(unsafe { sys::jambharrow_quantize_block_q8(x.as_ptr(), x.len(), d, qs, bsums) })
+    done(unsafe { sys::jambharrow_quantize_block_q8(x.as_ptr(), x.len() as Size, d, qs, bsums) })
 }
 
 #[inline]
 fn block_dot(dot: BlockDot, w: &[u8], xq: &Q8Block, n: usize) -> Result<f32, Refusal> {
-    answer(|value| {
-        // SAFETY: the pointer and the length are a slice's, each of the block's parts is as long as
-        // the call takes it to be, and the value's place is no part of them.
-        unsafe { dot(w.as_ptr(), w.len(), xq.d, &xq.qs, &xq.bsums, n, value) }
-    })
+    counted_answer(|value, blocks| number(dot, w, xq, n, value, blocks))
+}
+
+/// The number that the call returns.
+#[inline]
+fn number(
+    dot: BlockDot,
+    w: &[u8],
+    xq: &Q8Block,
+    n: usize,
+    value: &mut f32,
+    blocks: &mut [Size; 2],
+) -> u32 {
+    let Q8Block { d, qs, bsums } = xq;
+    let [w_len, n] = [w.len(), n].map(|size| size as Size);
+    // SAFETY: the pointer and the length are a slice's, each of the block's parts is as long as the
+    // call takes it to be, and what is written is lent to this call alone.
+    unsafe { dot(w.as_ptr(), w_len, *d, qs, bsums, n, value, blocks) }
 }
 
 /// The dot of the Q4_K block at the front of `w` and an activation block: (d * dx) * A less
@@ -91,6 +104,7 @@ pub fn integer_dot_q4k(x: &[f32], w_q4k: &[u8], n: usize) -> Result<f32, Refusal
 #[cfg(test)]
 mod tests {
     use super::*;
+    use crate::refusal::short;
     use crate::MOST_IN;
 
     /// A Q4_K block: d and dmin 1, the first scale and the first minimum as given, each nibble 1.
@@ -162,10 +176,7 @@ mod tests {
         block.bsums = [0; 8];
         assert_eq!(dot_q6k_q8_block(&w, &block, 256), Ok(16.0 * 64.0 * 127.0));
         assert_eq!(dot_q6k_q8_block(&w, &block, 2), Ok(2.0 * 64.0 * 127.0));
-        assert_eq!(
-            dot_q6k_q8_block(&w[1..], &block, 2),
-            Err(Refusal::WeightsShort)
-        );
+        assert_eq!(dot_q6k_q8_block(&w[1..], &block, 2), Err(short(0, 1)));
     }
 
     #[test]
@@ -174,28 +185,31 @@ mod tests {
         let mut block = all_127();
         block.bsums[7] += 65_536;
         assert_eq!(dot_q4k_q8_block(&w, &block, 0), Err(Refusal::WrongSums));
-        assert_eq!(
-            dot_q4k_q8_block(&w[1..], &block, 0),
-            Err(Refusal::WeightsShort)
-        );
+        assert_eq!(dot_q4k_q8_block(&w[1..], &block, 0), Err(short(0, 1)));
     }
 
     #[test]
-    fn a_refusal_writes_no_value() {
-        let w = q4_k(1, 0);
-        let block = all_127();
-        let dot = |sums: &[i32; 8]| {
-            let mut values = [7.0; 3];
-            let value = &mut values[1];
-            // SAFETY: the pointer and the length are a slice's, each part of the block is as long
-            // as the call takes it to be, and the value's place is no part of them.
-            let number = unsafe {
-                sys::jambharrow_dot_q4k_q8_block(w.as_ptr(), 144, 1.0, &block.qs, sums, 256, value)
-            };
-            (number, values)
+    fn value_and_counts_are_written_where_they_are_to_be() {
+        let (w, block) = (q4_k(1, 0), all_127());
+        let wrong = Q8Block {
+            bsums: [0; 8],
+            ..block
         };
-        assert_eq!(dot(&[0; 8]), (Refusal::WrongSums.number(), [7.0; 3]));
-        assert_eq!(dot(&block.bsums), (0, [7.0, 32.0 * 127.0, 7.0]));
+        let ask = |dot, w, block| {
+            let (mut values, mut counts) = ([7.0; 3], [7; 4]);
+            let blocks = (&mut counts[1..3]).try_into().expect("two places");
+            let number = number(dot, w, block, 256, &mut values[1], blocks);
+            (number, values, counts)
+        };
+        let (no_value, no_counts, missing) = ([7.0; 3], [7; 4], [7, 0, 1, 7]);
+        let dot: BlockDot = sys::jambharrow_dot_q4k_q8_block;
+        let answered = [7.0, 32.0 * 127.0, 7.0];
+        assert_eq!(ask(dot, &w, &block), (0, answered, no_counts));
+        assert_eq!(ask(dot, &w, &wrong), (7, no_value, no_counts));
+        assert_eq!(ask(dot, &w[1..], &wrong), (3, no_value, missing));
+        let dot: BlockDot = sys::jambharrow_dot_q6k_q8_block;
+        assert_eq!(ask(dot, &[0; 210], &block), (0, [7.0, 0.0, 7.0], no_counts));
+        assert_eq!(ask(dot, &[0; 209], &block), (3, no_value, missing));
     }
 
     #[test]
@@ -214,7 +228,7 @@ mod tests {
         assert_eq!(dot(&w[1..], MOST_IN + 1), Err(Refusal::TooLarge));
         assert_eq!(dot(&w[1..], 0), Err(Refusal::NotWholeBlocks));
         assert_eq!(dot(&w, 0).map(f32::to_bits), Ok(0));
-        assert_eq!(dot(&w, 258), Err(Refusal::WeightsShort));
+        assert_eq!(dot(&w, 258), Err(short(1, 2)));
         assert_eq!(dot(&[w, w].concat(), 258), Err(Refusal::ReadingsShort));
     }
 }

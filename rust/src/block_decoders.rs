@@ -1,11 +1,12 @@
 //! Block decoders: packed blocks become floats.
 use crate::refusal::{done, Refusal};
-use crate::sys::{self, Decoder};
+use crate::sys::{self, Decoder, Size};
 
 #[inline]
 fn decode(decoder: Decoder, bytes: &[u8], out: &mut [f32]) -> Result<(), Refusal> {
+    let [bytes_len, out_len] = [bytes.len(), out.len()].map(|size| size as Size);
     // SAFETY: each pointer and length is a slice's, and what is written is lent to this call alone.
-    done(unsafe { decoder(bytes.as_ptr(), bytes.len(), out.as_mut_ptr(), out.len()) })
+    done(unsafe { decoder(bytes.as_ptr(), bytes_len, out.as_mut_ptr(), out_len) })
 }
 
 /// Writes every value of the Q4_0 blocks, 18 bytes to 32 values, in order at the front of `out`,

@@ -1,11 +1,12 @@
 //! Block quantizers: 32 readings become a scale and 32 small integers.
 use crate::refusal::{done, Refusal};
-use crate::sys::{self, Quantizer};
+use crate::sys::{self, Quantizer, Size};
 
 #[inline]
 fn quantize(quantizer: Quantizer, data: &[f32], out: &mut [u8]) -> Result<(), Refusal> {
+    let [data_len, out_len] = [data.len(), out.len()].map(|size| size as Size);
     // SAFETY: each pointer and length is a slice's, and what is written is lent to this call alone.
-    done(unsafe { quantizer(data.as_ptr(), data.len(), out.as_mut_ptr(), out.len()) })
+    done(unsafe { quantizer(data.as_ptr(), data_len, out.as_mut_ptr(), out_len) })
 }
 
 /// Writes the readings as Q4_0 blocks, 18 bytes to 32 readings, in order at the front of `out`, and

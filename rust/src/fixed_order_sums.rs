@@ -1,6 +1,6 @@
 //! Fixed-order sums: each adds in one order, so that a result has one set of bits.
 use crate::refusal::{answer, Refusal};
-use crate::sys;
+use crate::sys::{self, Size};
 
 /// The dot of all of `x` and the front of `w`, as one chunk: eight lanes start at +0.0, product i
 /// is added to lane i mod 8, i rising, and the lanes meet in the tree of [`canonical_combine`].
@@ -9,9 +9,10 @@ use crate::sys;
 /// weights than readings.
 #[inline]
 pub fn canonical_chunk(x: &[f32], w: &[f32]) -> Result<f32, Refusal> {
+    let [x_len, w_len] = [x.len(), w.len()].map(|size| size as Size);
     answer(|value| {
         // SAFETY: each pointer and length is a slice's, and the value's place is no part of them.
-        unsafe { sys::jambharrow_canonical_chunk(x.as_ptr(), x.len(), w.as_ptr(), w.len(), value) }
+        unsafe { sys::jambharrow_canonical_chunk(x.as_ptr(), x_len, w.as_ptr(), w_len, value) }
     })
 }
 
@@ -21,7 +22,7 @@ pub fn canonical_chunk(x: &[f32], w: &[f32]) -> Result<f32, Refusal> {
 #[inline]
 pub fn canonical_combine(part: &mut [f32]) -> f32 {
     // SAFETY: the pointer and the length are a slice's, which is lent to this call alone.
-    unsafe { sys::jambharrow_canonical_combine(part.as_mut_ptr(), part.len()) }
+    unsafe { sys::jambharrow_canonical_combine(part.as_mut_ptr(), part.len() as Size) }
 }
 
 /// The dot of the first `n` readings and weights, as a row: the sums of its chunks, of 8,192 places
@@ -31,11 +32,10 @@ pub fn canonical_combine(part: &mut [f32]) -> f32 {
 /// as [`Refusal::ReadingsShort`] fewer than `n` readings.
 #[inline]
 pub fn canonical_dot_pub(x: &[f32], w: &[f32], n: usize) -> Result<f32, Refusal> {
+    let [x_len, w_len, n] = [x.len(), w.len(), n].map(|size| size as Size);
     answer(|value| {
         // SAFETY: each pointer and length is a slice's, and the value's place is no part of them.
-        unsafe {
-            sys::jambharrow_canonical_dot_pub(x.as_ptr(), x.len(), w.as_ptr(), w.len(), n, value)
-        }
+        unsafe { sys::jambharrow_canonical_dot_pub(x.as_ptr(), x_len, w.as_ptr(), w_len, n, value) }
     })
 }
 
@@ -44,9 +44,10 @@ pub fn canonical_dot_pub(x: &[f32], w: &[f32], n: usize) -> Result<f32, Refusal>
 /// answered with +0.0; then it refuses as [`Refusal::ReadingsShort`] fewer than `n` readings.
 #[inline]
 pub fn canonical_sum_pub(x: &[f32], n: usize) -> Result<f32, Refusal> {
+    let [x_len, n] = [x.len(), n].map(|size| size as Size);
     answer(|value| {
         // SAFETY: the pointer and the length are a slice's, and the value's place is no part of it.
-        unsafe { sys::jambharrow_canonical_sum_pub(x.as_ptr(), x.len(), n, value) }
+        unsafe { sys::jambharrow_canonical_sum_pub(x.as_ptr(), x_len, n, value) }
     })
 }
 
@@ -83,11 +84,12 @@ mod tests {
     fn refusals_come_in_their_order() {
         let over = vec![0.0; MOST_FLOATS + 1];
         assert_eq!(canonical_chunk(&over, &[]), Err(Refusal::TooLarge));
-        assert_eq!(canonical_chunk(&[0.0], &[]), Err(Refusal::WeightsShort));
+        let plain = Refusal::WeightsShort(None);
+        assert_eq!(canonical_chunk(&[0.0], &[]), Err(plain));
         let dot = |n| canonical_dot_pub(&[0.0], &[], n);
         assert_eq!(dot(MOST_IN + 1), Err(Refusal::TooLarge));
         assert_eq!(dot(0), Ok(0.0));
-        assert_eq!(dot(2), Err(Refusal::WeightsShort));
+        assert_eq!(dot(2), Err(plain));
         assert_eq!(
             canonical_dot_pub(&[0.0], &[0.0; 2], 2),
             Err(Refusal::ReadingsShort)

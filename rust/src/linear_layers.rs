@@ -1,6 +1,6 @@
 //! Layers: every row of readings against every row of packed weights.
-use crate::refusal::{done, Refusal};
-use crate::sys::{self, CpuLayer, Layer};
+use crate::refusal::{counted, done, Refusal};
+use crate::sys::{self, CpuLayer, Layer, Size};
 
 /// `sizes` are batch, in_feat and out_feat.
 #[inline]
@@ -11,21 +11,35 @@ fn linear(
     y_out: &mut [f32],
     sizes: [usize; 3],
 ) -> Result<(), Refusal> {
-    let [batch, in_feat, out_feat] = sizes;
+    counted(|blocks| number(layer, x, w, y_out, sizes, blocks))
+}
+
+/// The number that the call returns.
+#[inline]
+fn number(
+    layer: Layer,
+    x: &[f32],
+    w: &[u8],
+    y_out: &mut [f32],
+    sizes: [usize; 3],
+    blocks: &mut [Size; 2],
+) -> u32 {
+    let [batch, in_feat, out_feat] = sizes.map(|size| size as Size);
     // SAFETY: each pointer and length is a slice's, and what is written is lent to this call alone.
-    done(unsafe {
+    unsafe {
         layer(
             x.as_ptr(),
-            x.len(),
+            x.len() as Size,
             w.as_ptr(),
-            w.len(),
+            w.len() as Size,
             y_out.as_mut_ptr(),
-            y_out.len(),
+            y_out.len() as Size,
             batch,
             in_feat,
             out_feat,
+            blocks,
         )
-    })
+    }
 }
 
 /// Works a layer of `batch` rows of `in_feat` readings and `out_feat` rows of `in_feat` weights in
@@ -159,18 +173,18 @@ fn linear_cpu(
     scratch: &mut [f32],
     sizes: [usize; 3],
 ) -> Result<(), Refusal> {
-    let [batch, in_feat, out_feat] = sizes;
+    let [batch, in_feat, out_feat] = sizes.map(|size| size as Size);
     // SAFETY: each pointer and length is a slice's, and what is written is lent to this call alone.
     done(unsafe {
         layer(
             x.as_ptr(),
-            x.len(),
+            x.len() as Size,
             w.as_ptr(),
-            w.len(),
+            w.len() as Size,
             y_out.as_mut_ptr(),
-            y_out.len(),
+            y_out.len() as Size,
             scratch.as_mut_ptr(),
-            scratch.len(),
+            scratch.len() as Size,
             batch,
             in_feat,
             out_feat,
@@ -186,8 +200,8 @@ fn linear_cpu(
 /// [`Refusal::ReadingsShort`] any other count of readings than `batch * in_feat`; as
 /// [`Refusal::RoomShort`] a `y_out` of any other length than `batch * out_feat`; as
 /// [`Refusal::NotWholeBlocks`] bytes that are not whole blocks; as [`Refusal::WeightsShort`] blocks
-/// of any other count of weights than `out_feat * in_feat`; and as [`Refusal::RoomShort`] a
-/// `scratch` of fewer than `in_feat` places.
+/// of fewer weights than `out_feat * in_feat`, and as [`Refusal::WeightsLong`] of more; and as
+/// [`Refusal::RoomShort`] a `scratch` of fewer than `in_feat` places.
 #[inline]
 pub fn linear_q4_k_cpu(
     x: &[f32],
@@ -222,9 +236,10 @@ pub fn linear_q6_k_cpu(
 /// Does with Q4_0 blocks, of which a row is a whole number, what [`linear_q4_k_cpu`] does with its
 /// own. It refuses, in this order, as [`Refusal::TooLarge`] what [`linear_q4_k_fused`] refuses so; as
 /// [`Refusal::NotAMultiple`] an `in_feat` that is not a multiple of 32; as
-/// [`Refusal::WeightsShort`], [`Refusal::ReadingsShort`] and [`Refusal::RoomShort`] any other count
-/// of bytes, readings and places of `y_out` than the sizes need; and as [`Refusal::RoomShort`] a
-/// `scratch` of fewer than `in_feat` places.
+/// [`Refusal::WeightsShort`] fewer bytes than the sizes need, and as [`Refusal::WeightsLong`] more;
+/// as [`Refusal::ReadingsShort`] and [`Refusal::RoomShort`] any other count of readings and of places
+/// of `y_out` than they need; and as [`Refusal::RoomShort`] a `scratch` of fewer than `in_feat`
+/// places.
 #[inline]
 pub fn linear_q4_0_cpu(
     x: &[f32],
@@ -243,6 +258,7 @@ pub fn linear_q4_0_cpu(
 #[cfg(test)]
 mod tests {
     use super::*;
+    use crate::refusal::short;
     use crate::{MOST_BATCH, MOST_IN, MOST_OUT};
 
     /// A Q4_K block whose first 32 weights are as given, up to 15, and the others 0.
@@ -370,7 +386,7 @@ mod tests {
     fn a_layer_without_readings_looks_at_its_weights_and_writes_nothing() {
         let mut y = [7.0];
         let fused = |w: &[u8], y: &mut [f32]| linear_q4_k_fused(&[], w, y, 0, 256, 1);
-        assert_eq!(fused(&[0; 143], &mut y), Err(Refusal::WeightsShort));
+        assert_eq!(fused(&[0; 143], &mut y), Err(short(0, 1)));
         assert_eq!(fused(&[0; 144], &mut y), Ok(()));
         let mut scratch = [7.0; 256];
         let w = q4_k(1);
@@ -401,10 +417,56 @@ mod tests {
             assert_eq!(ask(&[], &[], 1, MOST_IN + 1, 1), Err(Refusal::TooLarge));
             assert_eq!(ask(&[], &[], 1, 1, MOST_OUT + 1), Err(Refusal::TooLarge));
             assert_eq!(ask(&[], &[], 2, 255, 1), Err(Refusal::NotAMultiple));
-            assert_eq!(ask(&[], &[], 2, 256, 1), Err(Refusal::WeightsShort));
+            assert_eq!(ask(&[], &[], 2, 256, 1), Err(short(0, 1)));
             assert_eq!(ask(&[], &[0; 210], 2, 256, 1), Err(Refusal::ReadingsShort));
             let x = [0.0; 512];
             assert_eq!(ask(&x, &[0; 210], 2, 256, 1), Err(Refusal::RoomShort));
+        }
+    }
+
+    /// The layers without scratch, and how many bytes a block of each has.
+    const LAYERS: [(Layer, usize); 6] = [
+        (sys::jambharrow_linear_q4_k_fused, 144),
+        (sys::jambharrow_linear_q6_k_fused, 210),
+        (sys::jambharrow_linear_q4_k_integer, 144),
+        (sys::jambharrow_linear_q6_k_integer, 210),
+        (sys::jambharrow_linear_q4_k_integer_rs, 144),
+        (sys::jambharrow_linear_q6_k_integer_rs, 210),
+    ];
+
+    #[test]
+    fn short_weights_are_counted_in_whole_blocks() {
+        for (layer, block) in LAYERS {
+            let of = |bytes: usize, sizes| linear(layer, &[], &vec![0; bytes], &mut [], sizes);
+            // Weights of a layer of 2,048 to 16, and the same that were cut inside a block.
+            assert_eq!(of(128 * block, [1, 4_096, 16]), Err(short(128, 256)));
+            assert_eq!(of(128 * block - 1, [1, 4_096, 16]), Err(short(127, 256)));
+            assert_eq!(of(256 * block - 1, [1, 4_096, 16]), Err(short(255, 256)));
+            let most = [0, MOST_IN, MOST_OUT];
+            assert_eq!(of(0, most), Err(short(0, 512 * 65_536)));
+        }
+    }
+
+    #[test]
+    fn counts_are_written_beside_3_alone() {
+        let (x, w) = ([0.0; 512], [0; 420]);
+        for (layer, block) in LAYERS {
+            let ask = |readings, bytes, places, sizes| {
+                let (mut y, mut counts) = ([7.0; 2], [7; 4]);
+                let blocks = (&mut counts[1..3]).try_into().expect("two places");
+                let y = &mut y[..places];
+                (
+                    number(layer, &x[..readings], &w[..bytes], y, sizes, blocks),
+                    counts,
+                )
+            };
+            let two = 2 * block;
+            assert_eq!(ask(256, two, 2, [1, 256, 2]), (0, [7; 4]));
+            assert_eq!(ask(0, 0, 0, [1, 255, 2]), (2, [7; 4]));
+            assert_eq!(ask(512, two, 2, [1, 512, 2]), (3, [7, 2, 4, 7]));
+            assert_eq!(ask(255, two, 2, [1, 256, 2]), (4, [7; 4]));
+            assert_eq!(ask(256, two, 1, [1, 256, 2]), (5, [7; 4]));
+            assert_eq!(ask(0, 0, 0, [1, MOST_IN + 256, 2]), (6, [7; 4]));
         }
     }
 
@@ -438,13 +500,17 @@ mod tests {
             assert_eq!(of(256, [257, 1, 2, 0]), Some(Refusal::ReadingsShort));
             assert_eq!(of(256, [256, 1, 2, 0]), Some(Refusal::RoomShort));
             assert_eq!(of(256, [256, 1, 1, 0]), Some(Refusal::NotWholeBlocks));
-            assert_eq!(of(256, [256, 2 * block, 1, 0]), Some(Refusal::WeightsShort));
+            assert_eq!(of(256, [256, 0, 1, 0]), Some(Refusal::WeightsShort(None)));
+            assert_eq!(of(256, [256, 2 * block, 1, 0]), Some(Refusal::WeightsLong));
+            // Half of the block's weights are too many.
+            assert_eq!(of(128, [128, block, 1, 0]), Some(Refusal::WeightsLong));
             assert_eq!(of(256, [256, block, 1, 255]), Some(Refusal::RoomShort));
         }
         let of = |in_feat, lengths| refusal(linear_q4_0_cpu, in_feat, lengths);
         assert_eq!(of(MOST_IN + 1, [0, 0, 0, 0]), Some(Refusal::TooLarge));
         assert_eq!(of(31, [33, 19, 2, 0]), Some(Refusal::NotAMultiple));
-        assert_eq!(of(32, [33, 19, 2, 0]), Some(Refusal::WeightsShort));
+        assert_eq!(of(32, [33, 17, 2, 0]), Some(Refusal::WeightsShort(None)));
+        assert_eq!(of(32, [33, 19, 2, 0]), Some(Refusal::WeightsLong));
         assert_eq!(of(32, [33, 18, 2, 0]), Some(Refusal::ReadingsShort));
         assert_eq!(of(32, [32, 18, 2, 0]), Some(Refusal::RoomShort));
         assert_eq!(of(32, [32, 18, 1, 31]), Some(Refusal::RoomShort));

@@ -1,7 +1,7 @@
 //! The stepped layer: a layer worked one piece of one row at a time, in any order and across any
 //! number of wake slots.
-use crate::refusal::{done, Refusal};
-use crate::sys;
+use crate::refusal::{counted, done, Refusal};
+use crate::sys::{self, Size};
 
 /// A layer that is worked by pieces. A piece is one chunk, of at most 8,192 places, of one row; it
 /// has a slot, where its sum waits, and a mark, which is nonzero once it is done. Slots and marks go
@@ -67,12 +67,12 @@ impl Layer {
         done(unsafe {
             sys::jambharrow_open(
                 self.format,
-                self.in_feat,
-                self.out_feat,
+                self.in_feat as Size,
+                self.out_feat as Size,
                 slots.as_mut_ptr(),
-                slots.len(),
+                slots.len() as Size,
                 marks.as_mut_ptr(),
-                marks.len(),
+                marks.len() as Size,
             )
         })
     }
@@ -92,21 +92,22 @@ impl Layer {
     ) -> Result<(), Refusal> {
         // SAFETY: each pointer and length is a slice's, and what is written is lent to this call
         // alone.
-        done(unsafe {
+        counted(|blocks| unsafe {
             sys::jambharrow_piece(
                 self.format,
-                self.in_feat,
-                self.out_feat,
+                self.in_feat as Size,
+                self.out_feat as Size,
                 w.as_ptr(),
-                w.len(),
+                w.len() as Size,
                 x.as_ptr(),
-                x.len(),
-                row,
-                chunk,
+                x.len() as Size,
+                row as Size,
+                chunk as Size,
                 slots.as_mut_ptr(),
-                slots.len(),
+                slots.len() as Size,
                 marks.as_mut_ptr(),
-                marks.len(),
+                marks.len() as Size,
+                blocks,
             )
         })
     }
@@ -121,28 +122,33 @@ impl Layer {
         slots: &mut [f32],
         marks: &mut [u8],
     ) -> Result<Progress, Refusal> {
-        let mut progress = Progress { done: 0, left: 0 };
-        // SAFETY: each pointer and length is a slice's, and what is written, the two counts too, is
-        // lent to this call alone.
-        done(unsafe {
+        let (mut worked, mut left) = (0, 0);
+        // SAFETY: each pointer and length is a slice's, and what is written, all counts too, is lent
+        // to this call alone.
+        counted(|blocks| unsafe {
             sys::jambharrow_run(
                 self.format,
-                self.in_feat,
-                self.out_feat,
+                self.in_feat as Size,
+                self.out_feat as Size,
                 w.as_ptr(),
-                w.len(),
+                w.len() as Size,
                 x.as_ptr(),
-                x.len(),
-                budget,
+                x.len() as Size,
+                budget as Size,
                 slots.as_mut_ptr(),
-                slots.len(),
+                slots.len() as Size,
                 marks.as_mut_ptr(),
-                marks.len(),
-                &mut progress.done,
-                &mut progress.left,
+                marks.len() as Size,
+                &mut worked,
+                &mut left,
+                blocks,
             )
         })?;
-        Ok(progress)
+        // Neither is more than the slots that were lent.
+        Ok(Progress {
+            done: worked as usize,
+            left: left as usize,
+        })
     }
 
     /// Writes the output of a row that is done, at its place in `y`: its slots, met in the tree of
@@ -162,15 +168,15 @@ impl Layer {
         done(unsafe {
             sys::jambharrow_close(
                 self.format,
-                self.in_feat,
-                self.out_feat,
-                row,
+                self.in_feat as Size,
+                self.out_feat as Size,
+                row as Size,
                 slots.as_ptr(),
-                slots.len(),
+                slots.len() as Size,
                 marks.as_ptr(),
-                marks.len(),
+                marks.len() as Size,
                 y.as_mut_ptr(),
-                y.len(),
+                y.len() as Size,
             )
         })
     }
@@ -179,6 +185,7 @@ impl Layer {
 #[cfg(test)]
 mod tests {
     use super::*;
+    use crate::refusal::short;
     use crate::{canonical_dot_q4k_fused, q6k_fused_f32_dot, MOST_IN, MOST_OUT};
 
     /// Three rows of two chunks, the second of one block.
@@ -333,10 +340,10 @@ mod tests {
         assert_eq!(piece(4, 1, rows, none, &[], 0, 3), Err(Refusal::TooLarge));
         assert_eq!(piece(4, 1, 3, none, &[], 0, 3), Err(Refusal::NotAMultiple));
         let last = w.len() - 1;
-        let short = piece(4, 8_448, 3, &w[..last], &[], 0, 3);
-        assert_eq!(short, Err(Refusal::WeightsShort));
-        let short = piece(4, 8_448, 3, &w, &x[1..], 0, 3);
-        assert_eq!(short, Err(Refusal::ReadingsShort));
+        let cut = piece(4, 8_448, 3, &w[..last], &[], 0, 3);
+        assert_eq!(cut, Err(short(98, 99)));
+        let cut = piece(4, 8_448, 3, &w, &x[1..], 0, 3);
+        assert_eq!(cut, Err(Refusal::ReadingsShort));
         assert_eq!(piece(4, 8_448, 3, &w, &x, 5, 3), Err(Refusal::RoomShort));
         assert_eq!(piece(4, 8_448, 3, &w, &x, 6, 3), Err(Refusal::Outside));
         assert_eq!((slots, marks), ([7.0; PIECES], [0; PIECES]));
@@ -345,21 +352,80 @@ mod tests {
     }
 
     #[test]
-    fn a_refusal_of_run_writes_no_counts() {
-        let (mut slots, mut marks) = ([7.0; 1], [0; 1]);
-        let mut run = |format| {
-            let mut counts = [7; 4];
-            let [_, done, left, _] = &mut counts;
-            // SAFETY: each pointer and length is a slice's, null with 0 for none, and what is
-            // written is lent to this call alone.
-            let number = unsafe {
-                let (w, x) = (std::ptr::null(), std::ptr::null());
-                let (slots, marks) = (slots.as_mut_ptr(), marks.as_mut_ptr());
-                sys::jambharrow_run(format, 0, 1, w, 0, x, 0, 1, slots, 1, marks, 1, done, left)
+    fn short_weights_are_counted_in_whole_blocks() {
+        for (format, block) in [(Layer::Q4_K, 144), (Layer::Q6_K, 210)] {
+            let layer = Layer {
+                format,
+                in_feat: 4_096,
+                out_feat: 16,
             };
-            (number, counts)
+            // Weights of a layer of 2,048 to 16, and the same that were cut inside a block.
+            for (bytes, found) in [(128 * block, 128), (128 * block - 1, 127)] {
+                let w = vec![0; bytes];
+                let piece = layer.piece(&w, &[], 0, 0, &mut [], &mut []);
+                assert_eq!(piece, Err(short(found, 256)));
+                let run = layer.run(&w, &[], 1, &mut [], &mut []);
+                assert_eq!(run, Err(short(found, 256)));
+            }
+        }
+    }
+
+    /// What the C function `run` returns of a layer of one row of one block, whose only piece has
+    /// this mark, and what then stands in the places of its four counts and around them.
+    fn run(format: u8, bytes: Size, readings: Size, mark: u8) -> (u32, [Size; 4], [Size; 4]) {
+        let (w, x) = ([0; 144], [1.0; 256]);
+        let (mut slots, mut marks) = ([7.0], [mark]);
+        let (mut counts, mut blocks) = ([7; 4], [7; 4]);
+        let [_, done, left, _] = &mut counts;
+        let two: &mut [Size; 2] = (&mut blocks[1..3]).try_into().expect("two places");
+        let (w, x) = (w.as_ptr(), x.as_ptr());
+        let (slots, marks) = (slots.as_mut_ptr(), marks.as_mut_ptr());
+        // SAFETY: each pointer is to at least as many places as the length behind it says, and what
+        // is written is lent to this call alone.
+        let number = unsafe {
+            sys::jambharrow_run(
+                format, 256, 1, w, bytes, x, readings, 1, slots, 1, marks, 1, done, left, two,
+            )
         };
-        assert_eq!(run(5), (Refusal::Unknown.number(), [7; 4]));
-        assert_eq!(run(4), (0, [7, 0, 0, 7]));
+        (number, counts, blocks)
+    }
+
+    #[test]
+    fn run_writes_its_counts_where_they_are_to_be() {
+        let none = [7; 4];
+        assert_eq!(run(4, 144, 256, 0), (0, [7, 1, 0, 7], none));
+        assert_eq!(run(4, 144, 256, 1), (0, [7, 0, 0, 7], none));
+        assert_eq!(run(4, 143, 256, 0), (3, none, [7, 0, 1, 7]));
+        assert_eq!(run(4, 144, 255, 0), (4, none, none));
+        assert_eq!(run(5, 143, 256, 0), (12, none, none));
+    }
+
+    /// The same of the C function `piece`, and a row.
+    fn piece(format: u8, bytes: Size, readings: Size, row: Size, mark: u8) -> (u32, [Size; 4]) {
+        let (w, x) = ([0; 144], [1.0; 256]);
+        let (mut slots, mut marks) = ([7.0], [mark]);
+        let mut blocks = [7; 4];
+        let two: &mut [Size; 2] = (&mut blocks[1..3]).try_into().expect("two places");
+        let (w, x) = (w.as_ptr(), x.as_ptr());
+        let (slots, marks) = (slots.as_mut_ptr(), marks.as_mut_ptr());
+        // SAFETY: each pointer is to at least as many places as the length behind it says, and what
+        // is written is lent to this call alone.
+        let number = unsafe {
+            sys::jambharrow_piece(
+                format, 256, 1, w, bytes, x, readings, row, 0, slots, 1, marks, 1, two,
+            )
+        };
+        (number, blocks)
+    }
+
+    #[test]
+    fn piece_writes_its_counts_beside_3_alone() {
+        let none = [7; 4];
+        assert_eq!(piece(4, 144, 256, 0, 0), (0, none));
+        assert_eq!(piece(4, 143, 256, 0, 0), (3, [7, 0, 1, 7]));
+        assert_eq!(piece(4, 144, 255, 0, 0), (4, none));
+        assert_eq!(piece(4, 144, 256, 1, 0), (8, none));
+        assert_eq!(piece(4, 144, 256, 0, 1), (9, none));
+        assert_eq!(piece(5, 143, 256, 0, 0), (12, none));
     }
 }

@@ -1,0 +1,111 @@
+//! The crate beside include/jambharrow.h: the same version, numbers, words and sizes.
+use jambharrow::{Refusal, MOST_BATCH, MOST_BYTES, MOST_FLOATS, MOST_IN, MOST_OUT};
+
+const HEADER: &str = include_str!("../../include/jambharrow.h");
+
+/// The lines of the header that begin so, without that.
+fn lines<'a>(begin: &'a str) -> impl Iterator<Item = &'static str> + 'a {
+    HEADER
+        .lines()
+        .filter_map(move |line| line.trim().strip_prefix(begin))
+}
+
+/// The name that C has for a refusal, without what every name begins with: that of Rust in capitals,
+/// with a line between its words.
+fn c_name(refusal: Refusal) -> String {
+    let shown = format!("{refusal:?}");
+    let name = shown.split('(').next().expect("a text has a first part");
+    let mut words = String::new();
+    for letter in name.chars() {
+        if letter.is_uppercase() && !words.is_empty() {
+            words.push('_');
+        }
+        words.push(letter.to_ascii_uppercase());
+    }
+    words
+}
+
+/// What the header says of each name of an enum, as `NAME = 1`, but for that of no refusal.
+fn numbers() -> Vec<(String, u32)> {
+    let of_enum = HEADER
+        .split("enum jambharrow_refusal {")
+        .nth(1)
+        .and_then(|rest| rest.split('}').next())
+        .expect("the header has the enum");
+    let pair = |line: &str| {
+        let line = line.trim().strip_prefix("JAMBHARROW_")?;
+        let (name, number) = line.trim_end_matches(',').split_once(" = ")?;
+        Some((name.to_string(), number.parse().expect("a whole number")))
+    };
+    let all = of_enum.lines().filter_map(pair);
+    all.filter(|(name, _)| name != "DONE").collect()
+}
+
+/// What stands between the quotes of a line.
+fn quoted(line: &str) -> String {
+    let mut parts = line.split('"');
+    parts.nth(1).expect("a line with words").to_string()
+}
+
+/// The words that the header has for each name, but for that of no refusal.
+fn words() -> Vec<(String, String)> {
+    let pair = |line: &str| {
+        let (name, rest) = line.split_once(':').expect("a case");
+        (name.to_string(), quoted(rest))
+    };
+    let all = lines("case JAMBHARROW_").map(pair);
+    all.filter(|(name, _)| name != "DONE").collect()
+}
+
+#[test]
+fn numbers_are_the_same() {
+    let ours = Refusal::ALL.map(|refusal| (c_name(refusal), refusal.number()));
+    assert_eq!(numbers(), ours);
+}
+
+#[test]
+fn words_are_the_same() {
+    let ours = Refusal::ALL.map(|refusal| (c_name(refusal), refusal.to_string()));
+    assert_eq!(words(), ours);
+}
+
+#[test]
+fn what_is_no_refusal_has_words_of_its_own() {
+    let own: Vec<String> = lines("case JAMBHARROW_DONE:")
+        .chain(lines("default:"))
+        .map(quoted)
+        .collect();
+    let [done, unknown] = own.as_slice() else {
+        panic!("words for done and for an unknown number, and not {own:?}");
+    };
+    assert_ne!(done, unknown);
+    for (name, words) in words() {
+        assert!(!own.contains(&words), "{name}: {words}");
+    }
+}
+
+/// What the header defines a name to be.
+fn defined(name: &str) -> usize {
+    let begin = format!("#define JAMBHARROW_{name} ");
+    let mut found = lines(&begin);
+    let number = found.next().expect("the header defines it");
+    number.parse().expect("a whole number")
+}
+
+#[test]
+fn the_version_is_the_same() {
+    let of_crate = |number: &str| number.parse::<usize>().expect("a whole number");
+    let major = of_crate(env!("CARGO_PKG_VERSION_MAJOR"));
+    let minor = of_crate(env!("CARGO_PKG_VERSION_MINOR"));
+    assert_eq!(defined("VERSION_MAJOR"), major);
+    assert_eq!(defined("VERSION_MINOR"), minor);
+}
+
+#[test]
+fn sizes_are_the_same() {
+    assert_eq!(defined("MOST_IN"), MOST_IN);
+    assert_eq!(defined("MOST_OUT"), MOST_OUT);
+    assert_eq!(defined("MOST_BATCH"), MOST_BATCH);
+    assert_eq!(defined("MOST_FLOATS"), MOST_FLOATS);
+    assert_eq!(defined("MOST_BYTES"), MOST_BYTES);
+}
