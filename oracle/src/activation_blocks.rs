@@ -1,4 +1,5 @@
 //! Activation blocks, and the integer dots over them.
+use crate::block_counts::short;
 use crate::calls::Call;
 use crate::compare::{Compared, Comparison};
 use crate::held;
@@ -236,7 +237,7 @@ impl BlockDot {
     /// Why document 01 says no to so many bytes and this block.
     fn refusal(&self, bytes: usize, block: &Q8Block) -> Option<Refusal> {
         if bytes < self.layout.bytes {
-            Some(Refusal::WeightsShort)
+            Some(short(&self.layout, bytes, 1))
         } else if self.looks_at_sums && block.bsums != sums_of(&block.qs) {
             Some(Refusal::WrongSums)
         } else {

@@ -93,7 +93,7 @@ fn chunk_refusal(x: usize, w: usize) -> Option<Refusal> {
     if x > MOST_FLOATS {
         Some(Refusal::TooLarge)
     } else if w < x {
-        Some(Refusal::WeightsShort)
+        Some(Refusal::WeightsShort(None))
     } else {
         None
     }
@@ -106,7 +106,7 @@ fn dot_refusal(x: usize, w: usize, n: usize) -> Option<Refusal> {
     } else if n == 0 {
         None
     } else if w < n {
-        Some(Refusal::WeightsShort)
+        Some(Refusal::WeightsShort(None))
     } else if x < n {
         Some(Refusal::ReadingsShort)
     } else {

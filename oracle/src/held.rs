@@ -57,8 +57,9 @@ pub fn outcome(
     })
 }
 
-fn refused(refusal: Refusal) -> String {
-    format!("refusal {}", refusal.number())
+/// A refusal's number, and what it says: of short weights that is the two counts.
+pub fn refused(refusal: Refusal) -> String {
+    format!("refusal {}, {refusal}", refusal.number())
 }
 
 /// What stands in one place of lent memory.
@@ -162,4 +163,58 @@ pub fn places<P: Place>(
         wanted: format!("{:08X}", wanted.bits()),
         ours: format!("{:08X}", after[place].bits()),
     })
+}
+
+#[cfg(test)]
+mod tests {
+    use super::*;
+    use jambharrow::Blocks;
+
+    /// A refusal of short weights, without counts and with two.
+    const PLAIN: Refusal = Refusal::WeightsShort(None);
+    const COUNTED: Refusal = Refusal::WeightsShort(Some(Blocks {
+        found: 8,
+        needed: 16,
+    }));
+    /// The same, with one count that is another.
+    const OTHERS: [Refusal; 2] = [
+        Refusal::WeightsShort(Some(Blocks {
+            found: 7,
+            needed: 16,
+        })),
+        Refusal::WeightsShort(Some(Blocks {
+            found: 8,
+            needed: 17,
+        })),
+    ];
+
+    /// Whether each way to hold an answer finds this one to be another than the one wanted.
+    fn differs(wanted: Refusal, ours: Refusal) -> [bool; 2] {
+        let of_value = value(Some(wanted), || 0.0, Err(ours), String::new);
+        let of_outcome = outcome(Some(wanted), Err(ours), String::new);
+        [of_value.is_err(), of_outcome.is_err()]
+    }
+
+    #[test]
+    fn another_count_is_a_difference() {
+        assert_eq!(differs(COUNTED, COUNTED), [false; 2]);
+        assert_eq!(differs(PLAIN, PLAIN), [false; 2]);
+        for other in [PLAIN, OTHERS[0], OTHERS[1]] {
+            assert_eq!(differs(COUNTED, other), [true; 2]);
+            assert_eq!(differs(other, COUNTED), [true; 2]);
+        }
+    }
+
+    #[test]
+    fn a_difference_of_counts_shows_both() {
+        let Err(shown) = outcome(Some(COUNTED), Err(OTHERS[1]), || "a row".into()) else {
+            panic!("8 of 16 is not 8 of 17");
+        };
+        let wanted = "refusal 3, 8 whole blocks of weights, 16 needed";
+        let ours = "refusal 3, 8 whole blocks of weights, 17 needed";
+        assert_eq!(
+            shown.to_string(),
+            format!("a row: wanted {wanted}, ours {ours}")
+        );
+    }
 }

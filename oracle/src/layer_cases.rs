@@ -1,6 +1,7 @@
 //! What a layer is asked: its sizes, how long its slices are, and of which kind its weights.
 use crate::layers::{Kind, Layer};
 use jambharrow::{MOST_BATCH, MOST_IN, MOST_OUT};
+use oracle::inputs::Layout;
 
 #[derive(Debug, Clone, Copy)]
 pub struct Sizes {
@@ -299,24 +300,26 @@ fn sharing() -> impl Iterator<Item = Sizes> {
 
 /// What is stored of a layer.
 pub fn sample(layer: &Layer) -> Vec<Asked> {
+    let mut all = answered(layer);
+    all.extend(around_what_is_needed(layer));
+    all
+}
+
+/// Layers of no rows, of long ones and of each kind of weights, with what they need.
+fn answered(layer: &Layer) -> Vec<Asked> {
     let values = layer.layout.values;
-    let sizes = |batch, in_feat, out_feat| Sizes {
-        batch,
-        in_feat,
-        out_feat,
-    };
     // A row longer than a chunk.
-    let mut answered = vec![(1, 8_192 + values, 2)];
-    answered.extend([
+    let mut shapes = vec![(1, 8_192 + values, 2)];
+    shapes.extend([
         (0, values, 1),
         (1, values, 0),
         (1, 0, 2),
         (3, 2 * values, 2),
     ]);
     if shares_blocks(layer) {
-        answered.extend([(1, 128, 2), (2, 3, 256)]);
+        shapes.extend([(1, 128, 2), (2, 3, 256)]);
     }
-    let mut all: Vec<Asked> = answered
+    let mut all: Vec<Asked> = shapes
         .into_iter()
         .map(|(batch, in_feat, out_feat)| {
             exact(layer, sizes(batch, in_feat, out_feat), Weights::Shipped)
@@ -324,26 +327,42 @@ pub fn sample(layer: &Layer) -> Vec<Asked> {
         .collect();
     all.extend(WEIGHTS.map(|weights| exact(layer, sizes(2, values, 3), weights)));
     all.push(worked(layer));
+    all
+}
+
+/// A layer with more or less of each thing than it needs, and sizes that no layer has.
+fn around_what_is_needed(layer: &Layer) -> Vec<Asked> {
+    let Layout { bytes, values, .. } = layer.layout;
     let whole = exact(layer, sizes(2, values, 2), Weights::Shipped);
-    let changed = |change: fn(&mut Lengths)| {
+    let changed = |change: &dyn Fn(&mut Lengths)| {
         let mut asked = whole;
         change(&mut asked.lengths);
         asked
     };
-    all.extend([
-        changed(|lengths| lengths.readings += 1),
-        changed(|lengths| lengths.bytes += 1),
-        changed(|lengths| lengths.places += 1),
-        changed(|lengths| lengths.scratch += 1),
-        changed(|lengths| lengths.readings -= 1),
-        changed(|lengths| lengths.bytes -= 1),
-        changed(|lengths| lengths.places -= 1),
-        changed(|lengths| lengths.scratch = lengths.scratch.saturating_sub(1)),
+    vec![
+        changed(&|lengths| lengths.readings += 1),
+        changed(&|lengths| lengths.bytes += 1),
+        changed(&|lengths| lengths.places += 1),
+        changed(&|lengths| lengths.scratch += 1),
+        changed(&|lengths| lengths.readings -= 1),
+        changed(&|lengths| lengths.bytes -= 1),
+        changed(&|lengths| lengths.places -= 1),
+        changed(&|lengths| lengths.scratch = lengths.scratch.saturating_sub(1)),
         exact(layer, sizes(1, values - 1, 1), Weights::Shipped),
         Asked {
             sizes: sizes(1, MOST_IN + 1, 1),
             ..whole
         },
-    ]);
-    all
+        // A whole block too few, and one too many.
+        changed(&|lengths| lengths.bytes -= bytes),
+        changed(&|lengths| lengths.bytes += bytes),
+    ]
+}
+
+fn sizes(batch: usize, in_feat: usize, out_feat: usize) -> Sizes {
+    Sizes {
+        batch,
+        in_feat,
+        out_feat,
+    }
 }

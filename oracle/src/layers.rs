@@ -1,4 +1,5 @@
 //! A layer, whichever call it is.
+use crate::block_counts::{of_layer, short};
 use crate::compare::{Compared, Comparison, Difference};
 use crate::held;
 use crate::layer_cases::{self, Asked, Lengths, Sizes, Weights};
@@ -106,43 +107,77 @@ impl Layer {
         }
     }
 
-    /// Why document 01 says no.
+    /// Why document 01 says no, and what document 02 has it say of the weights.
     fn refusal(&self, asked: Asked) -> Option<Refusal> {
-        let Asked { sizes, lengths, .. } = asked;
-        let Layout { bytes, values, .. } = self.layout;
-        let needs = self.needs(sizes);
-        let oversize =
-            sizes.batch > MOST_BATCH || sizes.in_feat > MOST_IN || sizes.out_feat > MOST_OUT;
+        let Sizes {
+            batch,
+            in_feat,
+            out_feat,
+        } = asked.sizes;
+        if batch > MOST_BATCH || in_feat > MOST_IN || out_feat > MOST_OUT {
+            return Some(Refusal::TooLarge);
+        }
         let reasons = match self.kind {
-            Kind::WholeBlocks { .. } => vec![
-                (oversize, Refusal::TooLarge),
-                (sizes.in_feat % values != 0, Refusal::NotAMultiple),
-                (lengths.bytes < needs.bytes, Refusal::WeightsShort),
-                (lengths.readings < needs.readings, Refusal::ReadingsShort),
-                (lengths.places < needs.places, Refusal::RoomShort),
-            ],
-            Kind::Cpu { .. } if values == 256 => vec![
-                (oversize, Refusal::TooLarge),
-                (lengths.readings != needs.readings, Refusal::ReadingsShort),
-                (lengths.places != needs.places, Refusal::RoomShort),
-                (lengths.bytes % bytes != 0, Refusal::NotWholeBlocks),
-                (
-                    lengths.bytes / bytes * values != sizes.out_feat.wrapping_mul(sizes.in_feat),
-                    Refusal::WeightsShort,
-                ),
-                (lengths.scratch < needs.scratch, Refusal::RoomShort),
-            ],
-            Kind::Cpu { .. } => vec![
-                (oversize, Refusal::TooLarge),
-                (sizes.in_feat % values != 0, Refusal::NotAMultiple),
-                (lengths.bytes != needs.bytes, Refusal::WeightsShort),
-                (lengths.readings != needs.readings, Refusal::ReadingsShort),
-                (lengths.places != needs.places, Refusal::RoomShort),
-                (lengths.scratch < needs.scratch, Refusal::RoomShort),
-            ],
+            Kind::WholeBlocks { .. } => self.whole_block_reasons(asked),
+            Kind::Cpu { .. } if self.layout.values == 256 => self.cpu_reasons(asked),
+            Kind::Cpu { .. } => self.cpu_reasons_of_32(asked),
         };
         let first = reasons.into_iter().find(|(holds, _)| *holds);
         first.map(|(_, refusal)| refusal)
+    }
+
+    /// The reasons of the layers whose rows are whole blocks, in their order: whether each holds.
+    fn whole_block_reasons(&self, asked: Asked) -> Vec<(bool, Refusal)> {
+        let Asked { sizes, lengths, .. } = asked;
+        let needs = self.needs(sizes);
+        let blocks = of_layer(&self.layout, sizes.in_feat, sizes.out_feat);
+        vec![
+            (
+                sizes.in_feat % self.layout.values != 0,
+                Refusal::NotAMultiple,
+            ),
+            (
+                lengths.bytes < needs.bytes,
+                short(&self.layout, lengths.bytes, blocks),
+            ),
+            (lengths.readings < needs.readings, Refusal::ReadingsShort),
+            (lengths.places < needs.places, Refusal::RoomShort),
+        ]
+    }
+
+    /// The same of the `_cpu` layers whose rows may share a block.
+    fn cpu_reasons(&self, asked: Asked) -> Vec<(bool, Refusal)> {
+        let Asked { sizes, lengths, .. } = asked;
+        let Layout { bytes, values, .. } = self.layout;
+        let needs = self.needs(sizes);
+        let (there, needed) = (
+            lengths.bytes / bytes * values,
+            sizes.out_feat * sizes.in_feat,
+        );
+        vec![
+            (lengths.readings != needs.readings, Refusal::ReadingsShort),
+            (lengths.places != needs.places, Refusal::RoomShort),
+            (lengths.bytes % bytes != 0, Refusal::NotWholeBlocks),
+            (there < needed, Refusal::WeightsShort(None)),
+            (there > needed, Refusal::WeightsLong),
+            (lengths.scratch < needs.scratch, Refusal::RoomShort),
+        ]
+    }
+
+    /// The same of the `_cpu` layer of blocks of 32 values.
+    fn cpu_reasons_of_32(&self, asked: Asked) -> Vec<(bool, Refusal)> {
+        let Asked { sizes, lengths, .. } = asked;
+        let Layout { bytes, values, .. } = self.layout;
+        let needs = self.needs(sizes);
+        let needed = sizes.out_feat * (sizes.in_feat / values * bytes);
+        vec![
+            (sizes.in_feat % values != 0, Refusal::NotAMultiple),
+            (lengths.bytes < needed, Refusal::WeightsShort(None)),
+            (lengths.bytes > needed, Refusal::WeightsLong),
+            (lengths.readings != needs.readings, Refusal::ReadingsShort),
+            (lengths.places != needs.places, Refusal::RoomShort),
+            (lengths.scratch < needs.scratch, Refusal::RoomShort),
+        ]
     }
 
     /// What the Rust does, by its text and docs/DIFFERENCES.md.
@@ -153,7 +188,7 @@ impl Layer {
         match (&self.kind, refusal) {
             (_, Refusal::TooLarge) => Does::Unasked,
             (Kind::WholeBlocks { .. }, Refusal::NotAMultiple) => Does::Refuses,
-            (Kind::WholeBlocks { rust_looks, .. }, Refusal::WeightsShort) => {
+            (Kind::WholeBlocks { rust_looks, .. }, Refusal::WeightsShort(_)) => {
                 match (rust_looks, asked.sizes.batch) {
                     (true, _) => Does::Refuses,
                     (false, 0) => Does::Answers,

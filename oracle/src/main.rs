@@ -2,6 +2,7 @@
 //! a sample of the Rust's answers and the record files of the gate.
 mod activation_blocks;
 mod binary16;
+mod block_counts;
 mod block_decoders;
 mod block_quantizers;
 mod calls;

@@ -1,4 +1,5 @@
 //! The dot of a row of readings and a row of packed blocks, whichever call it is.
+use crate::block_counts::{of_row, short};
 use crate::compare::{Compared, Comparison, Difference};
 use crate::held;
 use crate::sample::{count, floats, Records};
@@ -22,6 +23,10 @@ pub struct RowDot {
 /// How many rows of a few blocks are compared, and how many readings they have at most.
 const SHORT_ROWS: u64 = 1 << 18;
 const SHORT: usize = 1_100;
+
+/// How many rows of too few blocks are compared, and how many places they have at most.
+const CUT_ROWS: u64 = 1 << 14;
+const CUT: usize = 8_448;
 
 /// Counts of places against one block: the last is one too many.
 const OF_ONE_BLOCK: [usize; 8] = [0, 1, 31, 32, 33, 255, 256, 257];
@@ -53,6 +58,13 @@ impl RowDot {
         comparison.cases("rows around a chunk and the most", counts, |number| {
             self.on_row_of(number, LONG[(number / LONG_ROWS) as usize])
         });
+        comparison.cases("rows of too few blocks", CUT_ROWS, |number| {
+            let mut random = Random::new(number);
+            let n = 1 + random.below(CUT);
+            let blocks = random.below(self.needs(n));
+            let w = self.weights(&mut random, blocks);
+            self.case(&row(&mut random, n), &w, n)
+        });
         let shapes = self.shapes();
         comparison.cases("refusals", shapes.len() as u64, |number| {
             let (readings, bytes, n) = shapes[number as usize];
@@ -81,7 +93,7 @@ impl RowDot {
 
     /// How many blocks n places need.
     fn needs(&self, n: usize) -> usize {
-        n.div_ceil(self.layout.values)
+        of_row(&self.layout, n)
     }
 
     /// How many readings and packed bytes there are, and n: each none, one short, as many as
@@ -121,7 +133,7 @@ impl RowDot {
         } else if n == 0 {
             None
         } else if bytes / block * values < n {
-            Some(Refusal::WeightsShort)
+            Some(short(&self.layout, bytes, self.needs(n)))
         } else if readings < n {
             Some(Refusal::ReadingsShort)
         } else {
@@ -145,7 +157,7 @@ impl RowDot {
         let refuses = match refusal {
             Some(Refusal::NotWholeBlocks) => Some(true),
             // With too few readings too, the Rust may look past them, and panics.
-            Some(Refusal::WeightsShort) if x.len() >= n => Some(!self.adds_up_short_rows),
+            Some(Refusal::WeightsShort(_)) if x.len() >= n => Some(!self.adds_up_short_rows),
             _ => None,
         };
         if let Some(refuses) = refuses {

@@ -457,7 +457,7 @@ impl History<'_> {
         };
         let wanted = refusal.map_or(Ok(work.progress), Err);
         let ours = self.memory.ours(layer, call, lent);
-        agree(&wanted, &ours, || input(""))?;
+        agree(wanted, ours, answer, || input(""))?;
         let Memory {
             slots, marks, y, ..
         } = &self.memory;
@@ -491,27 +491,36 @@ impl History<'_> {
         let pieces = needs(layer).marks;
         let marks = self.memory.marks.part(pieces);
         let open = marks.iter().filter(|&&mark| mark == 0).count();
-        agree(&pieces, &(accepted + open), || {
-            input() + ", accepted plus open"
-        })?;
+        let what = || input() + ", accepted plus open";
+        agree(pieces, accepted + open, |count| count.to_string(), what)?;
         let SteppedCall::Close { row } = call else {
             return Ok(1);
         };
         let ours = self.memory.y.part(layer.out_feat)[row];
         for dot in self.input.in_one_go(layer, row) {
             let wanted = if same(dot, ours) { ours } else { dot };
-            agree(&wanted.to_bits(), &ours.to_bits(), || {
-                input() + ", in one go"
-            })?;
+            let what = || input() + ", in one go";
+            let bits = |bits| format!("{bits:08X}");
+            agree(wanted.to_bits(), ours.to_bits(), bits, what)?;
         }
         Ok(3)
     }
 }
 
+/// What a call answers, in words.
+fn answer(answer: Result<Option<Progress>, Refusal>) -> String {
+    match answer {
+        Ok(None) => "done".into(),
+        Ok(Some(Progress { done, left })) => format!("{done} done, {left} left"),
+        Err(refusal) => held::refused(refusal),
+    }
+}
+
 /// Holds what ours says to what is wanted.
-fn agree<T: PartialEq + std::fmt::Debug>(
-    wanted: &T,
-    ours: &T,
+fn agree<T: PartialEq + Copy>(
+    wanted: T,
+    ours: T,
+    shown: impl Fn(T) -> String,
     input: impl Fn() -> String,
 ) -> Result<(), Difference> {
     if wanted == ours {
@@ -519,7 +528,28 @@ fn agree<T: PartialEq + std::fmt::Debug>(
     }
     Err(Difference {
         input: input(),
-        wanted: format!("{wanted:X?}"),
-        ours: format!("{ours:X?}"),
+        wanted: shown(wanted),
+        ours: shown(ours),
     })
+}
+
+#[cfg(test)]
+mod tests {
+    use super::*;
+    use jambharrow::Blocks;
+
+    #[test]
+    fn a_run_with_another_count_differs_and_shows_both() {
+        let short = |found| Err(Refusal::WeightsShort(Some(Blocks { found, needed: 256 })));
+        assert!(agree(short(128), short(128), answer, String::new).is_ok());
+        let Err(shown) = agree(short(128), short(127), answer, || "run".into()) else {
+            panic!("128 is not 127");
+        };
+        let wanted = "refusal 3, 128 whole blocks of weights, 256 needed";
+        let ours = "refusal 3, 127 whole blocks of weights, 256 needed";
+        assert_eq!(
+            shown.to_string(),
+            format!("run: wanted {wanted}, ours {ours}")
+        );
+    }
 }

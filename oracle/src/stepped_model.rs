@@ -1,5 +1,6 @@
 //! What document 01 says of the stepped layer's calls, in plain code: whether a call refuses, what
 //! it answers, and every place that it writes. The sums and the tree are the Rust's.
+use crate::block_counts::{of_layer, short};
 use jambharrow::{Layer, Progress, Refusal, MOST_IN, MOST_OUT};
 use oracle::inputs::{self, Layout};
 use oracle::ops::quant::{self, CANON_CHUNK};
@@ -80,7 +81,9 @@ pub fn refusal(layer: Layer, call: SteppedCall, lent: Lengths, marks: &[u8]) -> 
     let needs = needs(layer);
     let works = matches!(call, SteppedCall::Piece { .. } | SteppedCall::Run { .. });
     if works && lent.weights < needs.weights {
-        return Some(Refusal::WeightsShort);
+        let layout = layout(layer.format);
+        let blocks = of_layer(&layout, layer.in_feat, layer.out_feat);
+        return Some(short(&layout, lent.weights, blocks));
     }
     if works && lent.readings < needs.readings {
         return Some(Refusal::ReadingsShort);

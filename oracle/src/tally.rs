@@ -1,14 +1,14 @@
-//! How often document 01 gives each number that says no.
+//! How often documents 01 and 02 give each number that says no.
 use jambharrow::Refusal;
 use std::fmt;
 use std::sync::atomic::{AtomicU64, Ordering};
 
-/// The numbers that say no are 1 to 13.
-const NUMBERS: usize = 14;
+/// The numbers that say no are 1 to 14.
+const NUMBERS: usize = 15;
 
 static COUNTS: [AtomicU64; NUMBERS] = [const { AtomicU64::new(0) }; NUMBERS];
 
-/// Counts what document 01 says of one call, where that is a number.
+/// Counts what the documents say of one call, where that is a number.
 pub fn count(refusal: Option<Refusal>) {
     if let Some(refusal) = refusal {
         COUNTS[refusal.number() as usize].fetch_add(1, Ordering::Relaxed);
