@@ -7,6 +7,7 @@
 //!
 //!     cargo run --example wake_slots
 use jambharrow::{canonical_dot_q4k_fused, Layer, Progress, Refusal};
+use std::process::ExitCode;
 
 const LAYER: Layer = Layer {
     format: Layer::Q4_K,
@@ -75,11 +76,11 @@ fn readings() -> Vec<f32> {
     (0..LAYER.in_feat).map(reading).collect()
 }
 
-fn main() -> Result<(), Refusal> {
-    let (weights, readings) = (weights(), readings());
+/// All wakes of one window.
+fn answer_window(weights: &[u8], readings: &[f32]) -> Result<(), Refusal> {
     let mut kept = Kept::begin()?;
     for slot in 1.. {
-        let Progress { done, left } = kept.wake(&weights, &readings)?;
+        let Progress { done, left } = kept.wake(weights, readings)?;
         println!("wake {slot}: {done} done, {left} left");
         if left == 0 {
             break;
@@ -90,11 +91,22 @@ fn main() -> Result<(), Refusal> {
     for (row, output) in y.iter().enumerate() {
         println!("output {row}: {:08X}", output.to_bits());
         let packed = &weights[row * ROW_BYTES..][..ROW_BYTES];
-        let in_one_go = canonical_dot_q4k_fused(&readings, packed, LAYER.in_feat)?;
+        let in_one_go = canonical_dot_q4k_fused(readings, packed, LAYER.in_feat)?;
         if in_one_go.to_bits() == output.to_bits() {
             same += 1;
         }
     }
     println!("in one go: {same} of {} the same", LAYER.out_feat);
     Ok(())
+}
+
+fn main() -> ExitCode {
+    match answer_window(&weights(), &readings()) {
+        Ok(()) => ExitCode::SUCCESS,
+        Err(refusal) => {
+            // Of short weights this tells how many blocks there are, and how many are needed.
+            println!("refused {}: {refusal}", refusal.number());
+            ExitCode::FAILURE
+        }
+    }
 }
