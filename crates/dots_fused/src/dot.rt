@@ -35,7 +35,7 @@ pub fn fused_dot(format: FormatK, x: &[f32], w: &[u8], n: usize) -> Answer
 {
     let size = layouts::block_bytes(Format::OfK(format));
     let over = w.len() % size;
-    let weights = w.len() / size * 256;
+    let found = w.len() / size;
     if n > refusals::MOST_IN {
         return Answer::Refused(refusals::TOO_LARGE);
     }
@@ -45,8 +45,8 @@ pub fn fused_dot(format: FormatK, x: &[f32], w: &[u8], n: usize) -> Answer
     if n == 0 {
         return Answer::Value(0.0);
     }
-    if weights < n {
-        return Answer::Refused(layouts::weights_short(format, w.len(), layouts::blocks_in(n)));
+    if found * 256 < n {
+        return Answer::Refused(refusals::blocks_short(found, layouts::blocks_in(n)));
     }
     if x.len() < n {
         return Answer::Refused(refusals::READINGS_SHORT);

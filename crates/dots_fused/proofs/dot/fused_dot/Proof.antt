@@ -16,13 +16,14 @@ use Rattle.dots_fused.proofs.dot.fused_dot.Tie as tie
 rem-over : tie.Need-rem-over
 rem-over c = omega (arith, sizes (OfK (c .before .before .before .args .format)), c .block-bytes .ensures)
 
-div-weights : tie.Need-div-weights
-div-weights c = omega (arith, sizes (OfK (c .before .before .before .args .format)), c .block-bytes .ensures)
+div-found : tie.Need-div-found
+div-found c = omega (arith, sizes (OfK (c .before .before .before .args .format)), c .block-bytes .ensures)
 
-mul-weights : tie.Need-mul-weights
-mul-weights c =
-    let t = c .before .before .before in
-    record { fits = values-fit (t .args .format) (c .block-bytes .result) (length (t .args .w .now)) (c .block-bytes .ensures) (omega arith) }
+mul-if4 : tie.Need-mul-if4
+mul-if4 c =
+    let b = c .before .before .before in
+    let t = b .before .before .before in
+    record { fits = values-fit (t .args .format) (b .block-bytes .result) (length (t .args .w .now)) (b .block-bytes .ensures) (omega arith) }
 
 returns : tie.Need-returns
 unfolding fusedSays given
@@ -59,7 +60,7 @@ returns-4 c =
       eq-eqb _ _ (i .before .before .if2 .left),
       ne-eqb _ _ (i .before .if3 .left),
       lt-ltb (length (a .w .now) / b .block-bytes .result * 256) (a .n) (omega arith),
-      c .weights-short .ensures,
+      c .blocks-short .ensures,
       c .before .blocks-in .ensures,
     )
 
@@ -97,11 +98,11 @@ fused-dot-spec =
     (tie.spec
     (λ c κs. search needs)
     rem-over
-    div-weights
-    mul-weights
+    div-found
     returns
     returns-2
     returns-3
+    mul-if4
     (λ c κs. omega arith)
     (λ c κs. search needs)
     returns-4
