@@ -6,3 +6,4 @@ pub mod Two
 pub mod Quants
 pub mod Rows
 pub mod Scales
+pub mod Minimums

@@ -8,7 +8,7 @@ use lib.IntN.{pos, _-ℤ_}
 use lib.ListN.{getD}
 use Rattle.numbers.specs.Fields.{le32}
 use Rattle.layouts.specs.Of32.{nibble, nibbleApart, quant32}
-use Rattle.layouts.specs.K.{quantQ4K, quantQ6K}
+use Rattle.layouts.specs.K.{nibblePaired, quantQ4K, quantQ5K, quantQ6K}
 use Rattle.layouts.specs.declared.format.Format32.the-variants.{Q40, Q50}
 
 -- ---- Q4_0: byte k has the neighbours 2 k and 2 k + 1
@@ -47,17 +47,28 @@ pub q50-at : (bs : List ℕ) (i n : ℕ) → nibbleApart bs 6 i ≡ n → quant3
 unfolding quant32
 q50-at bs i n e = rw e
 
--- ---- Q4_K: place p = 32 j + l of sub-block j, whose byte is a
+-- ---- nibbles of sub-blocks in pairs: place p = 32 j + l of sub-block j, whose byte is a
 
-pub q4k-at : (bs : List ℕ) (j l p a : ℕ) → l < 32 → p ≡ 32 * j + l → a ≡ 16 + (32 * (j / 2) + l) → nibble (getD bs a 0) (j % 2) ≡ quantQ4K bs p
-unfolding quantQ4K
-q4k-at bs j l p a h e f =
+pub paired-at : (bs : List ℕ) (at j l p a : ℕ) → l < 32 → p ≡ 32 * j + l → a ≡ at + (32 * (j / 2) + l) → nibble (getD bs a 0) (j % 2) ≡ nibblePaired bs at p
+paired-at bs at j l p a h e f =
     let r : 32 * (j % 2) + l < 64 = omega arith in
     let s : 32 * j + l ≡ j / 2 * 64 + (32 * (j % 2) + l) = omega arith in
     let u : (32 * j + l) / 64 ≡ j / 2 = ap (λ (n : ℕ). n / 64) s ∙ digits-div (j / 2) r in
     let v : (32 * j + l) % 32 ≡ l = omega arith in
     let w : (32 * j + l) / 32 ≡ j = omega arith in
     rw (e, f, u, v, w)
+
+pub q4k-at : (bs : List ℕ) (j l p a : ℕ) → l < 32 → p ≡ 32 * j + l → a ≡ 16 + (32 * (j / 2) + l) → nibble (getD bs a 0) (j % 2) ≡ quantQ4K bs p
+unfolding quantQ4K
+q4k-at bs = paired-at bs 16
+
+-- Q5_K: that nibble and the fifth bit b, bit j of byte l of the 32
+pub q5k-at : (bs : List ℕ) (j l p a b : ℕ) → l < 32 → p ≡ 32 * j + l → a ≡ 48 + (32 * (j / 2) + l) → b ≡ getD bs (16 + l) 0 / 2 ^ j % 2 → nibble (getD bs a 0) (j % 2) + 16 * b ≡ quantQ5K bs p
+unfolding quantQ5K
+q5k-at bs j l p a b h e f B =
+    let v : p % 32 ≡ l = omega arith in
+    let w : p / 32 ≡ j = omega arith in
+    rw (B, paired-at bs 48 j l p a h e f, v, w)
 
 -- ---- Q6_K: place p = 128 h + 32 t + l of quarter t of half h, whose low byte is a and whose high byte is b
 

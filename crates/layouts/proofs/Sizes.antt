@@ -11,7 +11,7 @@ use Rattle.layouts.specs.Weights.{valueIn, weightAt}
 use Rattle.layouts.specs.declared.format.Format32.{Format32}
 use Rattle.layouts.specs.declared.format.Format32.the-variants.{Q40, Q50, Q80}
 use Rattle.layouts.specs.declared.format.FormatK.{FormatK}
-use Rattle.layouts.specs.declared.format.FormatK.the-variants.{Q4K, Q6K}
+use Rattle.layouts.specs.declared.format.FormatK.the-variants.{Q4K, Q5K, Q6K}
 use Rattle.layouts.specs.declared.format.Format.{Format}
 use Rattle.layouts.specs.declared.format.Format.the-variants.{Of32, OfK}
 
@@ -23,11 +23,13 @@ least-32 Q80 = (lit≤ tt, lit≤ tt)
 pub sizes : (f : Format) → (18 ≤ blockBytes f) × (blockBytes f ≤ 210) × (32 ≤ blockValues f) × (blockValues f ≤ 256)
 sizes (Of32 f) = let h = least-32 f in (h .0, omega arith, lit≤ tt, lit≤ tt)
 sizes (OfK Q4K) = (lit≤ tt, lit≤ tt, lit≤ tt, lit≤ tt)
+sizes (OfK Q5K) = (lit≤ tt, lit≤ tt, lit≤ tt, lit≤ tt)
 sizes (OfK Q6K) = (lit≤ tt, lit≤ tt, lit≤ tt, lit≤ tt)
 
 -- what the whole blocks of any slice of bytes have fits
 pub values-fit : (f : FormatK) (size n : ℕ) → size ≡ bytesK f → n < 2 ^ 63 → n / size * 256 < 2 ^ 64
 values-fit Q4K size n e h = rw e (omega arith)
+values-fit Q5K size n e h = rw e (omega arith)
 values-fit Q6K size n e h = rw e (omega arith)
 
 -- block b's value at place l is the run's at place b * v + l

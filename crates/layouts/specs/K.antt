@@ -11,7 +11,7 @@ use Rattle.numbers.specs.Fields.{le16, signed}
 use Rattle.layouts.specs.Of32.{nibble}
 use Rattle.layouts.specs.Formats.{hasMinimums, runLength}
 use Rattle.layouts.specs.declared.format.FormatK.{FormatK}
-use Rattle.layouts.specs.declared.format.FormatK.the-variants.{Q4K, Q6K}
+use Rattle.layouts.specs.declared.format.FormatK.the-variants.{Q4K, Q5K, Q6K}
 
 -- ---- Q4_K: 144 bytes: d, dmin, 12 scale bytes, 128 nibble bytes. Its first 16 bytes are those of every format with
 -- minimums
@@ -30,9 +30,20 @@ scaleQ4K bs j = cond (ltb j 4) (scaleByte bs j % 64) (scaleByte bs (j + 4) % 16 
 unfoldable pub minimumQ4K : List ℕ → ℕ → ℕ
 minimumQ4K bs j = cond (ltb j 4) (scaleByte bs (j + 4) % 64) (scaleByte bs (j + 4) / 16 + 16 * (scaleByte bs j / 64))
 
--- Bytes 32g to 32g+31 hold sub-block 2g low and 2g+1 high: the whole number at place i.
+-- Of 128 bytes from `at` on, bytes 32g to 32g+31 hold sub-block 2g low and 2g+1 high: the nibble at place i.
+abbrev pub nibblePaired : List ℕ → ℕ → ℕ → ℕ
+nibblePaired bs at i = nibble (getD bs (at + (32 * (i / 64) + i % 32)) 0) (i / 32 % 2)
+
+-- the whole number at place i: its nibble
 unfoldable pub quantQ4K : List ℕ → ℕ → ℕ
-quantQ4K bs i = nibble (getD bs (16 + (32 * (i / 64) + i % 32)) 0) (i / 32 % 2)
+quantQ4K bs i = nibblePaired bs 16 i
+
+-- ---- Q5_K: 176 bytes: d, dmin, the same 12 scale bytes as Q4_K, 32 bytes of fifth bits, 128 nibble bytes
+
+-- The whole number at place i: its nibble, with its fifth bit above it. Sub-block j takes its fifth bit for place l
+-- from bit j of byte l of the 32.
+unfoldable pub quantQ5K : List ℕ → ℕ → ℕ
+quantQ5K bs i = nibblePaired bs 48 i + 16 * (getD bs (16 + i % 32) 0 / 2 ^ (i / 32) % 2)
 
 -- ---- Q6_K: 210 bytes: 128 low bytes, 64 high bytes, 16 signed scales, d. Two halves of 128, each with 64 low bytes,
 -- 32 high bytes and 8 scales
@@ -57,6 +68,7 @@ scaleQ6K bs e = signed (getD bs (192 + e) 0)
 -- the whole number at place i
 abbrev pub quantK : FormatK → List ℕ → ℕ → ℤ
 quantK Q4K bs i = pos (quantQ4K bs i)
+quantK Q5K bs i = pos (quantQ5K bs i)
 quantK Q6K bs i = quantQ6K bs i
 
 -- scale e of a block, a whole number

@@ -13,6 +13,7 @@ pub enum Format32 {
 // The K formats: 256 values to a block, in 16 runs of 16.
 pub enum FormatK {
     Q4K,
+    Q5K,
     Q6K,
 }
 
@@ -36,6 +37,7 @@ fn bytes_k(format: FormatK) -> usize
 {
     match format {
         FormatK::Q4K => 144,
+        FormatK::Q5K => 176,
         FormatK::Q6K => 210,
     }
 }
@@ -66,12 +68,15 @@ pub enum Named {
     Unknown,
 }
 
-// 4 is Q4_K, 6 is Q6_K, and any other byte names no format.
+// 4 is Q4_K, 5 is Q5_K, 6 is Q6_K, and any other byte names no format.
 pub fn format_named(byte: u8) -> Named
     ensures { λ r. ⌜ r ≡ formatNamed byte ⌝ }
 {
     if byte == 4 {
         return Named::Known(FormatK::Q4K);
+    }
+    if byte == 5 {
+        return Named::Known(FormatK::Q5K);
     }
     if byte == 6 {
         return Named::Known(FormatK::Q6K);
