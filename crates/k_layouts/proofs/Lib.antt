@@ -1,3 +1,4 @@
 -- What several proofs of `k_layouts` share.
 pub mod Scales
 pub mod Eight
+pub mod LaidOut

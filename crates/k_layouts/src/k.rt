@@ -6,7 +6,7 @@ ghost use Prim.Native.Nat.{_+_, _*_, _≤_, _<_};
 ghost use lib.IntN.{pos, _-ℤ_};
 ghost use lib.ListN.{length};
 ghost use Rattle.memory.specs.Lists.{table};
-ghost use Rattle.layouts.specs.K.{scaleQ4K, minimumQ4K, quantQ4K, quantQ6K, dScale, dminMinimum};
+ghost use Rattle.layouts.specs.K.{scaleQ4K, minimumQ4K, quantQ4K, quantQ5K, quantQ6K, dScale, dminMinimum};
 
 // The scale of Q4_K's sub-block j, six bits. It and what else is read of the first 16 bytes serves every format with
 // minimums.
@@ -78,6 +78,30 @@ pub fn quants_q4k(block: &[u8]) -> [u8; 256]
         q[160 + l] = c / 16;
         q[192 + l] = d % 16;
         q[224 + l] = d / 16;
+    }
+    q
+}
+
+// Q5_K's 256 whole numbers, one of each sub-block a turn: byte l of the fifth bits has one for each.
+pub fn quants_q5k(block: &[u8]) -> [u8; 256]
+    requires { ⌜ length (now block) ≡ 176 ⌝ }
+    ensures { λ r. ⌜ r ≡ table (quantQ5K (now (block .entry))) 256 ⌝ }
+{
+    let mut q = [0u8; 256];
+    for l in 0..32usize {
+        let h = block[16 + l];
+        let a = block[48 + l];
+        let b = block[80 + l];
+        let c = block[112 + l];
+        let d = block[144 + l];
+        q[l] = a % 16 + 16 * (h % 2);
+        q[32 + l] = a / 16 + 16 * (h / 2 % 2);
+        q[64 + l] = b % 16 + 16 * (h / 4 % 2);
+        q[96 + l] = b / 16 + 16 * (h / 8 % 2);
+        q[128 + l] = c % 16 + 16 * (h / 16 % 2);
+        q[160 + l] = c / 16 + 16 * (h / 32 % 2);
+        q[192 + l] = d % 16 + 16 * (h / 64 % 2);
+        q[224 + l] = d / 16 + 16 * (h / 128 % 2);
     }
     q
 }
