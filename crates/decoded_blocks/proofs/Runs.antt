@@ -1,5 +1,5 @@
 -- A block decoded in runs of 16, which are lent in turn, and a K block's values in run e: what a turn of its decoder puts there is what the layout says. Assumes nothing.
-use mathlib.Core.Path.{_≡_, refl, sym, ap, _∙_}
+use mathlib.Core.Path.{_≡_, refl, ap, _∙_}
 use Prim.Native.Nat.{ℕ, _+_, _-_, _*_, _/_, _≤_, _<_}
 use native.Mathlib.Nat.{le-of-eq}
 use native.Mathlib.Omega.{arith}
@@ -10,9 +10,11 @@ use lib.Ieee.{Float, nan, binary32, mul, sub, ofInt}
 use Rattle.memory.specs.Lists.{table}
 use Rattle.memory.proofs.Filled.{getD-table, table-ext, part-at, filled-all, part-length}
 use Rattle.memory.proofs.Parts.{InParts, parts-done}
+use Rattle.layouts.specs.Formats.{hasMinimums}
 use Rattle.layouts.specs.K.{quantK, dScale, dminMinimum, valueOf, valueK}
 use Rattle.layouts.specs.declared.format.FormatK.{FormatK}
 use Rattle.layouts.specs.declared.format.FormatK.the-variants.{Q4K, Q6K}
+use Rattle.layouts.proofs.Minimums.{same-value}
 
 -- run e of a block of so many is lent, of its whole numbers and of the output: each part has 16 places
 pub run-lengths : {A : Type 0} (q : List A) (out : List Float) (runs e : ℕ) → length q ≡ 16 * runs → length out ≡ 16 * runs → e < runs
@@ -25,11 +27,9 @@ runs-done f old out runs e n h p = parts-done f old (λ r. 16 * r) runs out e h 
 
 -- ---- a K block's values
 
--- those of whole numbers that were laid out, in the format g that the code was told of
-pub of-laid-out : {A : Type 0} {g : FormatK} {p : ℕ → A} {q : List A} (f : FormatK) (bs : List ℕ) (whole : A → ℤ) (z : A) → g ≡ f → q ≡ table p 256 → ((i : ℕ) → whole (p i) ≡ quantK f bs i)
-    → table (λ i. valueOf f bs i (whole (getD q i z))) 256 ≡ table (valueK g bs) 256
-of-laid-out {A} {p = p} f bs whole z e Q W =
-    table-ext _ _ 256 (λ i h. ap (λ (a : A). valueOf f bs i (whole a)) (rw Q (getD-table p 256 i z h)) ∙ ap (valueOf f bs i) (W i)) ∙ ap (λ (k : FormatK). table (valueK k bs) 256) (sym e)
+-- those of whole numbers q that are the block's own in the format g, which has minimums where f has
+pub of-laid-out : (f g : FormatK) (bs : List ℕ) (q : ℕ → ℤ) → hasMinimums g ≡ hasMinimums f → ((i : ℕ) → i < 256 → q i ≡ quantK g bs i) → table (λ i. valueOf f bs i (q i)) 256 ≡ table (valueK g bs) 256
+of-laid-out f g bs q e W = table-ext _ _ 256 (λ i h. ap (valueOf f bs i) (W i h) ∙ same-value f g bs i (quantK g bs i) e)
 
 module _ (bs : List ℕ) (e l n : ℕ) (k : n ≡ 16) (u : e < 16) (v : l < 16) where
   pub sub-block-run : (s m : List Float) (q : List ℕ) → s ≡ table (dScale Q4K bs) 8 → m ≡ table (dminMinimum bs) 8

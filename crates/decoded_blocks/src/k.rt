@@ -56,14 +56,19 @@ fn decode_runs(block: &[u8], q: &[i8], out: &mut [f32])
     }
 }
 
-// One block's 256 values.
+// One block's 256 values. The formats with minimums share one call of their decoder: with a call for each the compiler
+// would not put it into the loop over blocks.
 pub fn decode_k(format: FormatK, block: &[u8], out: &mut [f32])
     requires { ⌜ (length (now block) ≡ bytesK format) × (length (now out) ≡ 256) ⌝ }
     ensures { λ _. ⌜ now (out .exit) ≡ table (valueK format (now (block .entry))) 256 ⌝ }
 {
     match format {
-        FormatK::Q4K => {
-            let q = k_layouts::quants_q4k(block);
+        FormatK::Q4K | FormatK::Q5K => {
+            let q = if let FormatK::Q5K = format {
+                k_layouts::quants_q5k(block)
+            } else {
+                k_layouts::quants_q4k(block)
+            };
             decode_sub_blocks(block, &q, out)
         }
         FormatK::Q6K => {
