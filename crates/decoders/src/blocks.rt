@@ -128,6 +128,14 @@ pub fn dequantize_q4_k(bytes: &[u8], out: &mut [f32]) -> Outcome
     dequantize(Format::OfK(FormatK::Q4K), bytes, out)
 }
 
+// Q5_K: 256 values to a block of 176 bytes.
+pub fn dequantize_q5_k(bytes: &[u8], out: &mut [f32]) -> Outcome
+    ensures { λ r. ⌜ (outcomeSays r, now (out .exit))
+        ≡ dequantizeSays (Format.OfK FormatK.Q5K) (now (bytes .entry)) (now (out .entry)) ⌝ }
+{
+    dequantize(Format::OfK(FormatK::Q5K), bytes, out)
+}
+
 // Q6_K: 256 values to a block of 210 bytes.
 pub fn dequantize_q6_k(bytes: &[u8], out: &mut [f32]) -> Outcome
     ensures { λ r. ⌜ (outcomeSays r, now (out .exit))

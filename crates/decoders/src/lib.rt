@@ -7,6 +7,7 @@ pub use blocks::decode_blocks;
 pub use blocks::dequantize_q4_0;
 pub use blocks::dequantize_q4_k;
 pub use blocks::dequantize_q5_0;
+pub use blocks::dequantize_q5_k;
 pub use blocks::dequantize_q6_k;
 pub use blocks::dequantize_q8_0;
 pub use decoded_row::decode_row;
