@@ -10,12 +10,13 @@ use lib.Seq.{take-all}
 use lib.Ieee.{Float, nan, binary32, mul}
 use Rattle.memory.specs.Lists.{table, part}
 use Rattle.memory.proofs.Filled.{getD-table, part-at}
-use Rattle.layouts.specs.Formats.{bytesK}
+use Rattle.layouts.specs.Formats.{bytesK, hasMinimums}
 use Rattle.layouts.specs.K.{quantK, valueK, dScale, dminMinimum, valueOf}
 use Rattle.layouts.specs.Weights.{weightAt}
 use Rattle.layouts.specs.declared.format.FormatK.{FormatK}
 use Rattle.layouts.specs.declared.format.FormatK.the-variants.{Q4K, Q6K}
 use Rattle.layouts.specs.declared.format.Format.the-variants.{OfK}
+use Rattle.layouts.proofs.Minimums.{same-value}
 use Rattle.decoded_blocks.proofs.Runs.{run-of-16}
 use Rattle.sums_lanes.specs.Lanes.{lanesFrom}
 use Rattle.sums_lanes.proofs.LaneLaws.{lanes-cong, lanes-block}
@@ -70,11 +71,9 @@ module _ (x : List Float) (bs : List ℕ) where
       → runTerms (part x (16 * e) k) (part q (16 * e) k) (getD s e nan) i ≡ blockTerms Q6K x bs (λ n. getD q n (pos 0)) (16 * e + i)
   run-terms e k i s q K u h S = rw (part-at x (16 * e) k i nan h, run-of-16 bs e i k K u (omega arith) s q S)
 
-  -- all of them, of whole numbers that were laid out: the block's own, in the format g that the code was told of
-  pub laid-out : {A : Type 0} {g : FormatK} {p : ℕ → A} {q : List A} (f : FormatK) (l : List Float) (whole : A → ℤ) (z : A) → g ≡ f → length bs ≡ bytesK g → q ≡ table p 256
-      → ((i : ℕ) → whole (p i) ≡ quantK f bs i)
-      → lanesFrom l (blockTerms f x bs (λ i. whole (getD q i z))) 256 ≡ lanesFrom l (terms g x bs) 256
-  laid-out {A} {p = p} f l whole z e b Q W =
+  -- all of them, of whole numbers q that are the block's own in the format g, which has minimums where f has
+  pub laid-out : (f g : FormatK) (l : List Float) (q : ℕ → ℤ) → hasMinimums g ≡ hasMinimums f → length bs ≡ bytesK g → ((i : ℕ) → i < 256 → q i ≡ quantK g bs i)
+      → lanesFrom l (blockTerms f x bs q) 256 ≡ lanesFrom l (terms g x bs) 256
+  laid-out f g l q e b W =
       lanes-cong l _ _ 256
-      (λ i h. ap (mul binary32 (getD x i nan)) (ap (λ (a : A). valueOf f bs i (whole a)) (rw Q (getD-table p 256 i z h)) ∙ ap (valueOf f bs i) (W i) ∙ sym (one-block f bs i (b ∙ ap bytesK e) h)))
-      ∙ ap (λ (k : FormatK). lanesFrom l (terms k x bs) 256) (sym e)
+      (λ i h. ap (mul binary32 (getD x i nan)) (ap (valueOf f bs i) (W i h) ∙ same-value f g bs i (quantK g bs i) e ∙ sym (one-block g bs i b h)))
