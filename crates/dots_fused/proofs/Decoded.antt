@@ -50,7 +50,7 @@ module _ (f : FormatK) (x : List Float) (w : List ℕ) (n : ℕ) where
   pub dot-of-weights : length w % bytesK f ≡ 0 → n ≤ valuesOf (OfK f) (length w) → fusedSays f x w n ≡ dotSays x (table (weightAt (OfK f) w) n) n
   dot-of-weights = dot-decoded (table (weightAt (OfK f) w) n) (rw length-table (le-refl n), λ i u. getD-table (weightAt (OfK f) w) n i nan u)
 
-  -- .. and as `dequantize_q4_k` or `dequantize_q6_k` leaves it in its output
+  -- .. and as `dequantize_q4_k`, `dequantize_q5_k` or `dequantize_q6_k` leaves it in its output
   pub dot-of-output : (out y : List Float) → dequantizeSays (OfK f) w out ≡ (done, y) → n ≤ valuesOf (OfK f) (length w) → fusedSays f x w n ≡ dotSays x y n
   unfolding dequantizeSays
   dot-of-output out y e enough =

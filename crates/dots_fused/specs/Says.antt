@@ -18,8 +18,9 @@ use Rattle.layouts.specs.declared.format.Format.the-variants.{OfK}
 use Rattle.sums.specs.Rows.{rowSum}
 use Rattle.dots_fused_block.specs.Terms.{terms}
 
--- `canonical_dot_q4k_fused`, `q6k_fused_f32_dot`: over a size; packed bytes that are not whole blocks, also at n = 0; n
--- = 0 answers +0.0; fewer weights than needed; fewer readings; and otherwise the row's sum
+-- `canonical_dot_q4k_fused`, `canonical_dot_q5k_fused`, `q6k_fused_f32_dot`: over a size; packed bytes that are not
+-- whole blocks, also at n = 0; n = 0 answers +0.0; fewer weights than needed; fewer readings; and otherwise the row's
+-- sum
 unfoldable pub fusedSays : FormatK → List Float → List ℕ → ℕ → Said Float
 fusedSays f x w n =
     given (no 6) (ltb mostIn n)

@@ -61,6 +61,13 @@ pub fn canonical_dot_q4k_fused(x: &[f32], w: &[u8], n: usize) -> Answer
     fused_dot(FormatK::Q4K, x, w, n)
 }
 
+// The dot of a row of Q5_K.
+pub fn canonical_dot_q5k_fused(x: &[f32], w: &[u8], n: usize) -> Answer
+    ensures { λ r. ⌜ saidBy r ≡ fusedSays FormatK.Q5K (now (x .entry)) (now (w .entry)) n ⌝ }
+{
+    fused_dot(FormatK::Q5K, x, w, n)
+}
+
 // The dot of a row of Q6_K.
 pub fn q6k_fused_f32_dot(x: &[f32], w: &[u8], n: usize) -> Answer
     ensures { λ r. ⌜ saidBy r ≡ fusedSays FormatK.Q6K (now (x .entry)) (now (w .entry)) n ⌝ }
