@@ -1,5 +1,5 @@
--- What the fused layers say, and what their memory holds then: `linear_q4_k_fused`, `linear_q6_k_fused`. Definitions
--- only.
+-- What the fused layers say, and what their memory holds then: `linear_q4_k_fused`, `linear_q5_k_fused`,
+-- `linear_q6_k_fused`. Definitions only.
 use Prim.{Unit}
 use Prim.Native.Nat.{ℕ}
 use mathlib.Core.List.{List}

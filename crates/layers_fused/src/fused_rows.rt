@@ -90,6 +90,27 @@ pub fn linear_q4_k_fused(
     fused_layer(FormatK::Q4K, x, w, y, s)
 }
 
+// The same in Q5_K.
+pub fn linear_q5_k_fused(
+    x: &[f32],
+    w: &[u8],
+    y: &mut [f32],
+    batch: usize,
+    in_feat: usize,
+    out_feat: usize,
+) -> Outcome
+    ensures { λ r. ⌜ (outcomeSays r, now (y .exit))
+        ≡ fusedLayerSays FormatK.Q5K (shape batch «in_feat» «out_feat») (now (x .entry)) (now (w .entry))
+        (now (y .entry)) ⌝ }
+{
+    let s = Shape {
+        batch,
+        in_feat,
+        out_feat,
+    };
+    fused_layer(FormatK::Q5K, x, w, y, s)
+}
+
 // The same in Q6_K.
 pub fn linear_q6_k_fused(
     x: &[f32],

@@ -2,4 +2,5 @@
 mod fused_rows;
 
 pub use fused_rows::linear_q4_k_fused;
+pub use fused_rows::linear_q5_k_fused;
 pub use fused_rows::linear_q6_k_fused;
