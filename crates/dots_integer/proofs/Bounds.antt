@@ -1,6 +1,6 @@
--- How large the whole numbers are. From our quantizer every quant is within 127, the sums are right and small, A stays within 30,723,840 and B within 133,169,152. Assumes nothing.
+-- How large the whole numbers are. From our quantizer every quant is within 127, the sums are right and small, A stays within 30,723,840 in Q4_K and 63,495,936 in Q5_K, and B within 133,169,152. Assumes nothing.
 use mathlib.Core.Path.{_≡_, refl, sym, ap, _∙_, subst}
-use mathlib.Core.Bool.{Bool, true, false, cond}
+use mathlib.Core.Bool.{Bool, true, false, cond, false≢true}
 use mathlib.Core.List.{List}
 use Prim.Native.Nat.{ℕ, zero, suc, _+_, _*_, _-_, _/_, _%_, _^_, _≤_, _<_}
 use native.Mathlib.Nat.{mul-le-mul-right}
@@ -19,9 +19,10 @@ use Rattle.numbers.specs.Fields.{signed}
 use Rattle.numbers.specs.Steps.{nought, truncated}
 use Rattle.readings.specs.Readings.{scaleQ8, inverse, held, quantQ8}
 use Rattle.layouts.specs.Of32.{nibble}
-use Rattle.layouts.specs.K.{scaleByte, scaleQ4K, quantQ4K, scaleQ6K, quantQ6K, scaleK, quantK}
+use Rattle.layouts.specs.Formats.{hasMinimums}
+use Rattle.layouts.specs.K.{scaleByte, scaleQ4K, nibblePaired, quantQ4K, quantQ5K, scaleQ6K, quantQ6K, scaleK, quantK}
 use Rattle.layouts.specs.declared.format.FormatK.{FormatK}
-use Rattle.layouts.specs.declared.format.FormatK.the-variants.{Q4K, Q6K}
+use Rattle.layouts.specs.declared.format.FormatK.the-variants.{Q4K, Q5K, Q6K}
 use Rattle.dots_activation.specs.Whole.{elem, eqZ, Within}
 use Rattle.dots_integer.specs.Inner.{FiveBits}
 use Rattle.dots_integer.specs.Dots.{weighedAt, wholeSum}
@@ -29,7 +30,6 @@ use Rattle.dots_activation.specs.Blocks.{quantAt, quantsOf, sumOf32, rightAt, b
 use Rattle.dots_activation.proofs.Magnitudes.{within, pos-within, mul-within, fits-within}
 use Rattle.dots_activation.proofs.Ranges.{sum-within}
 use Rattle.dots_activation.proofs.Tests.{eqZ-same}
-use Rattle.dots_integer.proofs.Runs.{table-at}
 
 -- ---- a block of our quantizer
 
@@ -80,10 +80,12 @@ module _ (xs : List Float) where
 
 abbrev pub mostScale : FormatK → ℕ
 mostScale Q4K = 63
+mostScale Q5K = 63
 mostScale Q6K = 128
 
 abbrev pub mostQuant : FormatK → ℕ
 mostQuant Q4K = 15
+mostQuant Q5K = 31
 mostQuant Q6K = 32
 
 -- a byte as a signed number is within 128
@@ -106,6 +108,12 @@ nibble-small : (b k : ℕ) → b < 256 → nibble b k ≤ 15
 nibble-small b zero h = omega arith
 nibble-small b (suc k) h = omega arith
 
+-- the quants of a format with minimums have at most five bits
+five-bits-most : (f : FormatK) → hasMinimums f ≡ true → mostQuant f ≤ 31
+five-bits-most Q4K m = lit≤ tt
+five-bits-most Q5K m = lit≤ tt
+five-bits-most Q6K m = absurd (false≢true m)
+
 module _ (w : List ℕ) (bytes : (i : ℕ) → getD w i 0 < 256) where
   scale-q4k : (j : ℕ) → scaleQ4K w j ≤ 63
   unfolding scaleQ4K
@@ -115,13 +123,16 @@ module _ (w : List ℕ) (bytes : (i : ℕ) → getD w i 0 < 256) where
       by true = omega arith
       by false = omega (arith, bytes (4 + (j - 4)))
 
+  paired-small : (at i : ℕ) → nibblePaired w at i ≤ 15
+  paired-small at i = nibble-small (getD w (at + (32 * (i / 64) + i % 32)) 0) (i / 32 % 2) (bytes (at + (32 * (i / 64) + i % 32)))
+
   quant-q4k : (i : ℕ) → quantQ4K w i ≤ 15
   unfolding quantQ4K
-  quant-q4k i = nibble-small (getD w (16 + (32 * (i / 64) + i % 32)) 0) (i / 32 % 2) (bytes (16 + (32 * (i / 64) + i % 32)))
+  quant-q4k = paired-small 16
 
-  -- Q4_K's quants, as they are laid out
-  pub five-bits : (q : List ℕ) → q ≡ table (quantQ4K w) 256 → FiveBits q
-  five-bits q e = record { small = λ i h. omega (arith, table-at (quantQ4K w) 0 e i h, quant-q4k i) }
+  quant-q5k : (i : ℕ) → quantQ5K w i ≤ 31
+  unfolding quantQ5K
+  quant-q5k i = omega (arith, paired-small 48 i)
 
   scale-q6k : (e : ℕ) → Within 128 (scaleQ6K w e)
   unfolding scaleQ6K
@@ -141,26 +152,41 @@ module _ (w : List ℕ) (bytes : (i : ℕ) → getD w i 0 < 256) where
 
   pub scale-within : (f : FormatK) (i : ℕ) → Within (mostScale f) (scaleK f w i)
   scale-within Q4K i = pos-within (scale-q4k (i / 32))
+  scale-within Q5K i = pos-within (scale-q4k (i / 32))
   scale-within Q6K i = scale-q6k (i / 16)
 
   pub quant-within-k : (f : FormatK) (i : ℕ) → Within (mostQuant f) (quantK f w i)
   quant-within-k Q4K i = pos-within (quant-q4k i)
+  quant-within-k Q5K i = pos-within (quant-q5k i)
   quant-within-k Q6K i = quant-q6k i
+
+  -- bytes that are the quants of a block with minimums
+  pub five-bits : (f : FormatK) (q : List ℕ) → hasMinimums f ≡ true → ((i : ℕ) → i < 256 → pos (getD q i 0) ≡ quantK f w i) → FiveBits q
+  five-bits f q m e = record { small = λ i h. omega (arith, subst (Within (mostQuant f)) (sym (e i h)) (quant-within-k f i) .abs, five-bits-most f m) }
 
   -- activation quants within X: the sum over at most 256 places
   pub sum-within-k : (f : FormatK) (X : ℕ) (x : List ℤ) (n : ℕ) → n ≤ 256 → ((i : ℕ) → i < n → Within X (elem x i)) → Within (256 * (mostScale f * (mostQuant f * X))) (wholeSum f w x n)
   sum-within-k f X x n h q =
       within (sum-within (weighedAt f w (quantK f w) x) (mostScale f * (mostQuant f * X)) n (λ i p. mul-within (scale-within f i) (mul-within (quant-within-k f i) (q i p)))) (mul-le-mul-right (mostScale f * (mostQuant f * X)) h)
 
-  -- From our quantizer A stays within 30,723,840 ..
+  -- that of a block of our quantizer
+  pub ours-within : (f : FormatK) (xs : List Float) (n : ℕ) → n ≤ 256 → Within (256 * (mostScale f * (mostQuant f * 127))) (wholeSum f w (quantsOf xs) n)
+  ours-within f xs n h = sum-within-k f 127 (quantsOf xs) n h (λ i p. quants-within xs i (omega arith))
+
+  -- From our quantizer A stays within 30,723,840 in Q4_K ..
   pub a-within : (xs : List Float) (n : ℕ) → n ≤ 256 → Within 30723840 (wholeSum Q4K w (quantsOf xs) n)
-  a-within xs n h = sum-within-k Q4K 127 (quantsOf xs) n h (λ i p. quants-within xs i (omega arith))
+  a-within = ours-within Q4K
+
+  -- .. and within 63,495,936 in Q5_K, ..
+  pub a-within-q5k : (xs : List Float) (n : ℕ) → n ≤ 256 → Within 63495936 (wholeSum Q5K w (quantsOf xs) n)
+  a-within-q5k = ours-within Q5K
 
   -- .. and B within 133,169,152.
   pub b-within : (xs : List Float) (n : ℕ) → n ≤ 256 → Within 133169152 (wholeSum Q6K w (quantsOf xs) n)
-  b-within xs n h = sum-within-k Q6K 127 (quantsOf xs) n h (λ i p. quants-within xs i (omega arith))
+  b-within = ours-within Q6K
 
-  -- Of any signed bytes i32 holds both.
+  -- Of any signed bytes i32 holds each.
   pub held-by-i32 : (f : FormatK) (x : List ℤ) (n : ℕ) → n ≤ 256 → ((i : ℕ) → i < n → Within 128 (elem x i)) → SFits w32 (wholeSum f w x n)
   held-by-i32 Q4K x n h q = fits-within (sum-within-k Q4K 128 x n h q) tt
+  held-by-i32 Q5K x n h q = fits-within (sum-within-k Q5K 128 x n h q) tt
   held-by-i32 Q6K x n h q = fits-within (sum-within-k Q6K 128 x n h q) tt

@@ -1,17 +1,18 @@
--- A whole-number sum turned to a float and scaled, from what the calls gave, and a block whose quants are cut. Assumes nothing.
+-- A whole-number sum turned to a float and scaled, from what the calls gave, a block whose quants are laid out, and one whose quants are cut. Assumes nothing.
 use mathlib.Core.Path.{_≡_, ap, _∙_}
 use mathlib.Core.Bool.{cond}
 use mathlib.Core.List.{List}
-use Prim.Native.Nat.{ℕ, _≤_}
+use Prim.Native.Nat.{ℕ, _≤_, _<_}
 use lib.Dec.{ltb}
 use lib.IntN.{ℤ, pos}
 use lib.Ieee.{Float, binary32, mul, sub, ofInt}
 use Rattle.memory.specs.Lists.{table}
+use Rattle.layouts.specs.Formats.{hasMinimums}
 use Rattle.layouts.specs.K.{quantK}
 use Rattle.layouts.specs.declared.format.FormatK.{FormatK}
-use Rattle.dots_activation.specs.Whole.{elem}
-use Rattle.dots_integer.specs.Dots.{scaledSum, scaledDot, blockDot}
-use Rattle.dots_integer.proofs.Runs.{cut-sum}
+use Rattle.dots_activation.specs.Whole.{elem, sumℤ}
+use Rattle.dots_integer.specs.Dots.{weighedAt, scaledSum, scaledDot, blockDot}
+use Rattle.dots_integer.proofs.Runs.{laid-out, cut-sum}
 
 -- h is the scale d, and a the float of s, which is the sum z
 pub scaled-is : {h a d : Float} {s z : ℤ} (dx : Float) → h ≡ d → a ≡ ofInt binary32 s → s ≡ z → mul binary32 (mul binary32 h dx) a ≡ scaledSum d dx z
@@ -19,6 +20,16 @@ scaled-is {h} {a} {d} dx p q r = ap (λ (v : Float). mul binary32 (mul binary32 
 
 pub less-is : {a b x y : Float} → a ≡ x → b ≡ y → sub binary32 a b ≡ sub binary32 x y
 less-is {a} {b} {x} {y} p q = ap (λ (v : Float). sub binary32 v b) p ∙ ap (sub binary32 x) q
+
+-- how a whole-number sum is scaled goes by whether a format has minimums
+same-dot : (f g : FormatK) (w : List ℕ) (dx : Float) (sums : List ℤ) (z : ℤ) → hasMinimums g ≡ hasMinimums f → scaledDot f w dx sums z ≡ scaledDot g w dx sums z
+same-dot f g w dx sums z e = rw e
+
+-- the dot over quants q that are the block's own in the format g, which has minimums where f has
+pub of-laid-out : (f g : FormatK) (w : List ℕ) (dx : Float) (qs sums : List ℤ) (q : ℕ → ℤ) → hasMinimums g ≡ hasMinimums f → ((i : ℕ) → i < 256 → q i ≡ quantK g w i)
+    → scaledDot f w dx sums (sumℤ (weighedAt f w q qs) 256) ≡ blockDot g w dx qs sums 256
+unfolding blockDot
+of-laid-out f g w dx qs sums q e W = ap (scaledDot f w dx sums) (laid-out f w q qs g (quantK g w) e W) ∙ same-dot f g w dx sums _ e
 
 -- over all places of the quants below n, and 0 from there on: the dot over the places below n
 pub cut-dot : (f : FormatK) (w : List ℕ) (dx : Float) (qs below sums : List ℤ) (n : ℕ) → n ≤ 256 → below ≡ table (λ i. cond (ltb i n) (elem qs i) (pos 0)) 256

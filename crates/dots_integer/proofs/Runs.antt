@@ -12,9 +12,10 @@ use lib.IntN.{ℤ, pos, _*ℤ_, *ℤ-zero}
 use lib.ListN.{getD}
 use Rattle.memory.specs.Lists.{table}
 use Rattle.memory.proofs.Filled.{getD-table}
-use Rattle.layouts.specs.Formats.{runLength}
+use Rattle.layouts.specs.Formats.{hasMinimums, runLength}
 use Rattle.layouts.specs.K.{scaleIn, scaleK}
 use Rattle.layouts.specs.declared.format.FormatK.{FormatK}
+use Rattle.layouts.proofs.Minimums.{same-scale}
 use Rattle.dots_activation.specs.Whole.{elem, sumℤ}
 use Rattle.dots_activation.proofs.Ranges.{sum-same, sum-scale, sum-runs, sum-cut}
 use Rattle.dots_integer.specs.Dots.{weighedAt}
@@ -47,9 +48,10 @@ module _ (f : FormatK) (w : List ℕ) (q : ℕ → ℤ) (x : List ℤ) where
   pub stretches-are : (R k : ℕ) → sumℤ (stretchWeighs R) k ≡ sumℤ (weighedAt f w q x) (R * k)
   stretches-are R k = sum-runs (weighedAt f w q x) R k
 
-  -- other quants that are the same
-  pub laid-out : (v : ℕ → ℤ) → ((i : ℕ) → i < 256 → q i ≡ v i) → sumℤ (weighedAt f w q x) 256 ≡ sumℤ (weighedAt f w v x) 256
-  laid-out v e = sum-same (weighedAt f w q x) (weighedAt f w v x) 256 (λ i h. ap (λ (z : ℤ). scaleK f w i *ℤ (z *ℤ elem x i)) (e i h))
+  -- other quants that are the same, in a format that has minimums where f has
+  pub laid-out : (g : FormatK) (v : ℕ → ℤ) → hasMinimums g ≡ hasMinimums f → ((i : ℕ) → i < 256 → q i ≡ v i) → sumℤ (weighedAt f w q x) 256 ≡ sumℤ (weighedAt g w v x) 256
+  laid-out g v m e =
+      sum-same (weighedAt f w q x) (weighedAt g w v x) 256 (λ i h. ap (λ (z : ℤ). scaleK f w i *ℤ (z *ℤ elem x i)) (e i h) ∙ ap (λ (z : ℤ). z *ℤ (v i *ℤ elem x i)) (same-scale f g w i m))
 
   -- what an activation quant z weighs at place i
   abbrev weighs : ℕ → ℤ → ℤ

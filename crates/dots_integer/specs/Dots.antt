@@ -50,9 +50,9 @@ dotWith f w b n = blockDot f w (b .d) (b .qs) (b .bsums) n
 abbrev pub sumsServe : FormatK → List ℤ → List ℤ → Bool
 sumsServe f qs sums = cond (hasMinimums f) (sumsRight qs sums) true
 
--- `dot_q4k_q8_block`, `dot_q6k_q8_block`: fewer weights than needed; sums that aren't the sums of their 32s; and
--- otherwise its formula, also at n = 0. A block dot needs one whole block and takes n above 256 as 256; surplus weights
--- are ignored.
+-- `dot_q4k_q8_block`, `dot_q5k_q8_block`, `dot_q6k_q8_block`: fewer weights than needed; sums that aren't the sums of
+-- their 32s; and otherwise its formula, also at n = 0. A block dot needs one whole block and takes n above 256 as 256;
+-- surplus weights are ignored.
 unfoldable pub blockDotSays : FormatK → List ℕ → Q8Block → ℕ → Said Float
 blockDotSays f w b n =
     given (weightsShort f (length w) 1) (ltb (length w) (bytesK f))

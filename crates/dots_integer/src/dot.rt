@@ -58,15 +58,19 @@ fn dot_of_runs(w: &[u8], q: &[i8; 256], d: f32, qs: &[i8]) -> f32
 }
 
 // The dot of a packed block and an activation block, its scale, its 256 quants and its eight sums, for callers that
-// made the block and so know its sums.
+// made the block and so know its sums. The formats with minimums share one call, as their decoder's.
 pub fn block_dot(format: FormatK, w: &[u8], d: f32, qs: &[i8], sums: &[i32]) -> f32
     requires { ⌜ (length (now w) ≡ bytesK format) × (length (now qs) ≡ 256) × (length (now sums) ≡ 8)
         × (hasMinimums format ≡ true → SmallSums (now sums)) ⌝ }
     ensures { λ r. ⌜ r ≡ blockDot format (now (w .entry)) d (now (qs .entry)) (now (sums .entry)) 256 ⌝ }
 {
     match format {
-        FormatK::Q4K => {
-            let q = k_layouts::quants_q4k(w);
+        FormatK::Q4K | FormatK::Q5K => {
+            let q = if let FormatK::Q5K = format {
+                k_layouts::quants_q5k(w)
+            } else {
+                k_layouts::quants_q4k(w)
+            };
             dot_of_sub_blocks(w, &q, d, qs, sums)
         }
         FormatK::Q6K => {
@@ -102,7 +106,7 @@ fn sums_serve(format: FormatK, qs: &[i8; 256], sums: &[i32; 8]) -> bool
         × (r ≡ true → hasMinimums format ≡ true → SmallSums (now (sums .entry))) ⌝ }
 {
     match format {
-        FormatK::Q4K => sums_right(qs, sums),
+        FormatK::Q4K | FormatK::Q5K => sums_right(qs, sums),
         FormatK::Q6K => true,
     }
 }
@@ -136,6 +140,14 @@ pub fn dot_q4k_q8_block(w: &[u8], xq: Q8Block, n: usize) -> Answer
 {
     let sums = xq.bsums;
     first_dot(FormatK::Q4K, w, xq.d, &xq.qs, &sums, n)
+}
+
+// The dot of a Q5_K block and an activation block. Refuses 3 and 7, in this order.
+pub fn dot_q5k_q8_block(w: &[u8], xq: Q8Block, n: usize) -> Answer
+    ensures { λ r. ⌜ saidBy r ≡ blockDotSays FormatK.Q5K (now (w .entry)) xq n ⌝ }
+{
+    let sums = xq.bsums;
+    first_dot(FormatK::Q5K, w, xq.d, &xq.qs, &sums, n)
 }
 
 // The dot of a Q6_K block and an activation block. Refuses 3.
