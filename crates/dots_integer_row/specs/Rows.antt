@@ -28,8 +28,8 @@ blockAt f x w n b =
 unfoldable pub integerRow : FormatK → List Float → List ℕ → ℕ → Float
 integerRow f x w n = tree (table (blockAt f x w n) (stretchesIn 256 n))
 
--- `integer_dot_q4k`: over a size; packed bytes that are not whole blocks; n = 0 answers +0.0; fewer weights than
--- needed; fewer readings; and otherwise the row's dot
+-- `integer_dot_q4k`, `integer_dot_q5k`: over a size; packed bytes that are not whole blocks; n = 0 answers +0.0; fewer
+-- weights than needed; fewer readings; and otherwise the row's dot
 unfoldable pub integerSays : FormatK → List Float → List ℕ → ℕ → Said Float
 integerSays f x w n =
     given (no 6) (ltb mostIn n)

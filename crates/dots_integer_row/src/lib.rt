@@ -2,3 +2,4 @@
 mod row;
 
 pub use row::integer_dot_q4k;
+pub use row::integer_dot_q5k;

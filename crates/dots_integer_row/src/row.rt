@@ -79,3 +79,10 @@ pub fn integer_dot_q4k(x: &[f32], w: &[u8], n: usize) -> Answer
 {
     integer_dot(FormatK::Q4K, x, w, n)
 }
+
+// The dot of a row of Q5_K.
+pub fn integer_dot_q5k(x: &[f32], w: &[u8], n: usize) -> Answer
+    ensures { λ r. ⌜ saidBy r ≡ integerSays FormatK.Q5K (now (x .entry)) (now (w .entry)) n ⌝ }
+{
+    integer_dot(FormatK::Q5K, x, w, n)
+}
