@@ -1,4 +1,4 @@
--- An output of `linear_q4_k_integer` is what `integer_dot_q4k` says of its rows, and so of every format: the integer dot of a row is one, however it is worked. Assumes nothing.
+-- An output of `linear_q4_k_integer` is what `integer_dot_q4k` says of its rows, one of `linear_q5_k_integer` what `integer_dot_q5k` says, and so of every format: the integer dot of a row is one, however it is worked. Assumes nothing.
 use Prim.{Unit}
 use mathlib.Core.Path.{_≡_, sym, ap, _∙_}
 use mathlib.Core.List.{List}
@@ -66,7 +66,7 @@ module _ (f : FormatK) (s : Shape) (x : List Float) (w : List ℕ) (b o : ℕ) (
       let weights : length (weightRow f w n o) ≡ size = length-take-le size (drop (o * size) w) (rw length-drop (omega (arith, within o size (s .«out_feat») (length w) in-outs (h .weighed)))) in
       integer-answers f (readingRow x s b) (weightRow f w n o) n (h .within .in-in) (le-of-eq (sym readings)) (h .whole) weights
 
-  -- AN OUTPUT IS THE ROW DOT: of a layer that says it is done, the output at (b, o) is what `integer_dot_q4k` says of row b of the readings and row o of the weights
+  -- AN OUTPUT IS THE ROW DOT: of a layer that says it is done, the output at (b, o) is what `integer_dot_q4k` or `integer_dot_q5k` says of row b of the readings and row o of the weights
   pub output-is-integer-dot : (y out : List Float) → integerLayerSays f Tree s x w y ≡ (done, out)
       → integerSays f (readingRow x s b) (weightRow f w (s .«in_feat») o) (s .«in_feat») ≡ value (getD out (b * s .«out_feat» + o) nan)
   unfolding integerLayerSays

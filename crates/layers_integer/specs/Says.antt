@@ -12,7 +12,8 @@ use Rattle.layers_shape.specs.Shapes.{layerRefusal}
 use Rattle.dots_kept_row.specs.declared.meeting.Meeting.{Meeting}
 use Rattle.layers_integer_row.specs.Outputs.{integerOutputs}
 
--- `linear_q4_k_integer`, `linear_q6_k_integer`, and the `_rs` layers: 6, 2, 3, 4, 5; and otherwise every output
+-- `linear_q4_k_integer`, `linear_q5_k_integer`, `linear_q6_k_integer`, and the `_rs` layers: 6, 2, 3, 4, 5; and
+-- otherwise every output
 unfoldable pub integerLayerSays :
     FormatK → Meeting → Shape → List Float → List ℕ → List Float → Said (Unit {0}) × List Float
 integerLayerSays f m s x w y =

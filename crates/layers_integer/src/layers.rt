@@ -55,6 +55,27 @@ pub fn linear_q4_k_integer(
     integer_layer(FormatK::Q4K, Meeting::Tree, x, w, y, s)
 }
 
+// The same in Q5_K.
+pub fn linear_q5_k_integer(
+    x: &[f32],
+    w: &[u8],
+    y: &mut [f32],
+    batch: usize,
+    in_feat: usize,
+    out_feat: usize,
+) -> Outcome
+    ensures { λ r. ⌜ (outcomeSays r, now (y .exit))
+        ≡ integerLayerSays FormatK.Q5K Meeting.Tree (shape batch «in_feat» «out_feat») (now (x .entry)) (now (w .entry))
+        (now (y .entry)) ⌝ }
+{
+    let s = Shape {
+        batch,
+        in_feat,
+        out_feat,
+    };
+    integer_layer(FormatK::Q5K, Meeting::Tree, x, w, y, s)
+}
+
 // The same in Q6_K.
 pub fn linear_q6_k_integer(
     x: &[f32],
@@ -95,6 +116,27 @@ pub fn linear_q4_k_integer_rs(
         out_feat,
     };
     integer_layer(FormatK::Q4K, Meeting::Running, x, w, y, s)
+}
+
+// The same in Q5_K.
+pub fn linear_q5_k_integer_rs(
+    x: &[f32],
+    w: &[u8],
+    y: &mut [f32],
+    batch: usize,
+    in_feat: usize,
+    out_feat: usize,
+) -> Outcome
+    ensures { λ r. ⌜ (outcomeSays r, now (y .exit))
+        ≡ integerLayerSays FormatK.Q5K Meeting.Running (shape batch «in_feat» «out_feat») (now (x .entry))
+        (now (w .entry)) (now (y .entry)) ⌝ }
+{
+    let s = Shape {
+        batch,
+        in_feat,
+        out_feat,
+    };
+    integer_layer(FormatK::Q5K, Meeting::Running, x, w, y, s)
 }
 
 // The same in Q6_K.
