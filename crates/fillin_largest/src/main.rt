@@ -1,4 +1,4 @@
-// `fillin` on the largest layer in both formats, and on many windows.
+// `fillin` on the largest layer in Q4_K and in Q6_K, and on many windows.
 fn main() {
     fillin_loop::fill_in(fillin_loop::standard());
 }

@@ -16,7 +16,8 @@ use Rattle.layers_shape.specs.Shapes.{weightBytes}
 use Rattle.frames.specs.Frame.{Frame, ended, torn, whole}
 use Rattle.records.specs.Found.{Found, nothing, layer, window, warmUp}
 
--- ---- Kind 1, layer: format byte (4 or 6), u32 in_feat (1 to 2,048), u32 out_feat (1 to 16), then exactly the weights
+-- ---- Kind 1, layer: format byte (4, 5 or 6), u32 in_feat (1 to 2,048), u32 out_feat (1 to 16), then exactly the
+-- weights
 
 -- the format byte of a layer's payload ..
 abbrev pub formatIn : List ℕ → ℕ
