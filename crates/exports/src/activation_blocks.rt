@@ -45,6 +45,28 @@ pub extern "C" fn jambharrow_dot_q4k_q8_block(
     )
 }
 
+// `dots_integer::dot_q5k_q8_block`, for C.
+#[no_mangle]
+pub extern "C" fn jambharrow_dot_q5k_q8_block(
+    w: &[u8],
+    d: f32,
+    qs: &[i8; 256],
+    bsums: &[i32; 8],
+    n: usize,
+    value: &mut f32,
+    blocks: &mut [usize; 2],
+) -> u32
+    ensures { λ r. ⌜ (r, (now (value .exit), now (blocks .exit)))
+        ≡ laidOutBlocks (blockDotSays FormatK.Q5K (now (w .entry)) (blockIn d (now (qs .entry)) (now (bsums .entry))) n)
+        (now (value .entry)) (now (blocks .entry)) ⌝ }
+{
+    lay_out_and_blocks(
+        dots_integer::first_dot(FormatK::Q5K, w, d, qs, bsums, n),
+        value,
+        blocks,
+    )
+}
+
 // `dots_integer::dot_q6k_q8_block`, for C.
 #[no_mangle]
 pub extern "C" fn jambharrow_dot_q6k_q8_block(
@@ -77,7 +99,24 @@ pub extern "C" fn jambharrow_integer_dot_q4k(
     blocks: &mut [usize; 2],
 ) -> u32
     ensures { λ r. ⌜ (r, (now (value .exit), now (blocks .exit)))
-        ≡ laidOutBlocks (integerSays FormatK.Q4K (now (x .entry)) (now (w .entry)) n) (now (value .entry)) (now (blocks .entry)) ⌝ }
+        ≡ laidOutBlocks (integerSays FormatK.Q4K (now (x .entry)) (now (w .entry)) n)
+        (now (value .entry)) (now (blocks .entry)) ⌝ }
 {
     lay_out_and_blocks(dots_integer_row::integer_dot_q4k(x, w, n), value, blocks)
+}
+
+// `dots_integer_row::integer_dot_q5k`, for C.
+#[no_mangle]
+pub extern "C" fn jambharrow_integer_dot_q5k(
+    x: &[f32],
+    w: &[u8],
+    n: usize,
+    value: &mut f32,
+    blocks: &mut [usize; 2],
+) -> u32
+    ensures { λ r. ⌜ (r, (now (value .exit), now (blocks .exit)))
+        ≡ laidOutBlocks (integerSays FormatK.Q5K (now (x .entry)) (now (w .entry)) n)
+        (now (value .entry)) (now (blocks .entry)) ⌝ }
+{
+    lay_out_and_blocks(dots_integer_row::integer_dot_q5k(x, w, n), value, blocks)
 }

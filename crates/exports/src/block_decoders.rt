@@ -43,6 +43,15 @@ pub extern "C" fn jambharrow_dequantize_q4_k(bytes: &[u8], out: &mut [f32]) -> u
     number_of(decoders::dequantize_q4_k(bytes, out))
 }
 
+// `decoders::dequantize_q5_k`, for C.
+#[no_mangle]
+pub extern "C" fn jambharrow_dequantize_q5_k(bytes: &[u8], out: &mut [f32]) -> u32
+    ensures { λ r. ⌜ (r, now (out .exit))
+        ≡ numbered (dequantizeSays (Format.OfK FormatK.Q5K) (now (bytes .entry)) (now (out .entry))) ⌝ }
+{
+    number_of(decoders::dequantize_q5_k(bytes, out))
+}
+
 // `decoders::dequantize_q6_k`, for C.
 #[no_mangle]
 pub extern "C" fn jambharrow_dequantize_q6_k(bytes: &[u8], out: &mut [f32]) -> u32

@@ -33,6 +33,27 @@ pub extern "C" fn jambharrow_linear_q4_k_fused(
     )
 }
 
+// `layers_fused::linear_q5_k_fused`, for C.
+#[no_mangle]
+pub extern "C" fn jambharrow_linear_q5_k_fused(
+    x: &[f32],
+    w: &[u8],
+    y: &mut [f32],
+    batch: usize,
+    in_feat: usize,
+    out_feat: usize,
+    blocks: &mut [usize; 2],
+) -> u32
+    ensures { λ r. ⌜ (r, (now (y .exit), now (blocks .exit)))
+        ≡ numberedBlocks (fusedLayerSays FormatK.Q5K (shape batch «in_feat» «out_feat») (now (x .entry)) (now (w .entry))
+        (now (y .entry))) (now (blocks .entry)) ⌝ }
+{
+    number_and_blocks(
+        layers_fused::linear_q5_k_fused(x, w, y, batch, in_feat, out_feat),
+        blocks,
+    )
+}
+
 // `layers_fused::linear_q6_k_fused`, for C.
 #[no_mangle]
 pub extern "C" fn jambharrow_linear_q6_k_fused(
@@ -75,6 +96,27 @@ pub extern "C" fn jambharrow_linear_q4_k_integer(
     )
 }
 
+// `layers_integer::linear_q5_k_integer`, for C.
+#[no_mangle]
+pub extern "C" fn jambharrow_linear_q5_k_integer(
+    x: &[f32],
+    w: &[u8],
+    y: &mut [f32],
+    batch: usize,
+    in_feat: usize,
+    out_feat: usize,
+    blocks: &mut [usize; 2],
+) -> u32
+    ensures { λ r. ⌜ (r, (now (y .exit), now (blocks .exit)))
+        ≡ numberedBlocks (integerLayerSays FormatK.Q5K Meeting.Tree (shape batch «in_feat» «out_feat») (now (x .entry))
+        (now (w .entry)) (now (y .entry))) (now (blocks .entry)) ⌝ }
+{
+    number_and_blocks(
+        layers_integer::linear_q5_k_integer(x, w, y, batch, in_feat, out_feat),
+        blocks,
+    )
+}
+
 // `layers_integer::linear_q6_k_integer`, for C.
 #[no_mangle]
 pub extern "C" fn jambharrow_linear_q6_k_integer(
@@ -113,6 +155,27 @@ pub extern "C" fn jambharrow_linear_q4_k_integer_rs(
 {
     number_and_blocks(
         layers_integer::linear_q4_k_integer_rs(x, w, y, batch, in_feat, out_feat),
+        blocks,
+    )
+}
+
+// `layers_integer::linear_q5_k_integer_rs`, for C.
+#[no_mangle]
+pub extern "C" fn jambharrow_linear_q5_k_integer_rs(
+    x: &[f32],
+    w: &[u8],
+    y: &mut [f32],
+    batch: usize,
+    in_feat: usize,
+    out_feat: usize,
+    blocks: &mut [usize; 2],
+) -> u32
+    ensures { λ r. ⌜ (r, (now (y .exit), now (blocks .exit)))
+        ≡ numberedBlocks (integerLayerSays FormatK.Q5K Meeting.Running (shape batch «in_feat» «out_feat») (now (x .entry))
+        (now (w .entry)) (now (y .entry))) (now (blocks .entry)) ⌝ }
+{
+    number_and_blocks(
+        layers_integer::linear_q5_k_integer_rs(x, w, y, batch, in_feat, out_feat),
         blocks,
     )
 }

@@ -75,10 +75,18 @@ pub extern "C" fn jambharrow_run(
     left: &mut usize,
     blocks: &mut [usize; 2],
 ) -> u32
-    ensures { λ r. ⌜ (r, (ran (now (done .exit)) (now (left .exit)), memory (now (slots .exit)) (now (marks .exit)), now (blocks .exit)))
+    ensures { λ r. ⌜ (
+      r,
+      (
+        ran (now (done .exit)) (now (left .exit)),
+        memory (now (slots .exit)) (now (marks .exit)),
+        now (blocks .exit),
+      ),
+    )
         ≡ laidOutBeside
         (runSays (layerOf format «in_feat» «out_feat») (now (w .entry)) (now (x .entry)) budget
-        (memory (now (slots .entry)) (now (marks .entry)))) (ran (now (done .entry)) (now (left .entry))) (now (blocks .entry)) ⌝ }
+        (memory (now (slots .entry)) (now (marks .entry))))
+        (ran (now (done .entry)) (now (left .entry))) (now (blocks .entry)) ⌝ }
 {
     let layer = Layer {
         format,

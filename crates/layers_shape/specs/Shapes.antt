@@ -41,7 +41,8 @@ unfoldable pub layerRefusal : FormatK → Shape → (readings weights places : �
 layerRefusal f s readings weights places =
     given (no 6) (oversize s)
     (given (no 2) (not (eqb (s .«in_feat» % 256) 0))
-    (given (layerShort f (s .«in_feat») (s .«out_feat») weights) (ltb weights (weightBytes f (s .«in_feat») (s .«out_feat»)))
+    (given (layerShort f (s .«in_feat») (s .«out_feat») weights)
+    (ltb weights (weightBytes f (s .«in_feat») (s .«out_feat»)))
     (given (no 4) (ltb readings (s .batch * s .«in_feat»))
     (given (no 5) (ltb places (s .batch * s .«out_feat»))
     done))))
