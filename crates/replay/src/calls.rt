@@ -24,6 +24,11 @@ pub fn judge(tag: u8, payload: &[u8]) -> Finding {
         16..=18 => judge_row_dot(tag, payload),
         19..=27 => judge_layer(tag, payload),
         28 => judge_history(payload),
+        29 => judge_block_decoder(tag, payload),
+        30 => judge_row_dot(tag, payload),
+        31 => judge_activation_block(tag, payload),
+        32 => judge_row_dot(tag, payload),
+        33..=35 => judge_layer(tag, payload),
         NAME => {
             print_name(payload);
             Finding::Name

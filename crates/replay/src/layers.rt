@@ -15,10 +15,13 @@ const MOST: usize = 8_448;
 
 enum Layer {
     Q4kFused,
+    Q5kFused,
     Q6kFused,
     Q4kInteger,
+    Q5kInteger,
     Q6kInteger,
     Q4kIntegerRs,
+    Q5kIntegerRs,
     Q6kIntegerRs,
     Q4kCpu,
     Q6kCpu,
@@ -39,10 +42,13 @@ fn outcome(
     let outs = s.out_feat;
     match layer {
         Layer::Q4kFused => layers_fused::linear_q4_k_fused(x, w, y, batch, n, outs),
+        Layer::Q5kFused => layers_fused::linear_q5_k_fused(x, w, y, batch, n, outs),
         Layer::Q6kFused => layers_fused::linear_q6_k_fused(x, w, y, batch, n, outs),
         Layer::Q4kInteger => layers_integer::linear_q4_k_integer(x, w, y, batch, n, outs),
+        Layer::Q5kInteger => layers_integer::linear_q5_k_integer(x, w, y, batch, n, outs),
         Layer::Q6kInteger => layers_integer::linear_q6_k_integer(x, w, y, batch, n, outs),
         Layer::Q4kIntegerRs => layers_integer::linear_q4_k_integer_rs(x, w, y, batch, n, outs),
+        Layer::Q5kIntegerRs => layers_integer::linear_q5_k_integer_rs(x, w, y, batch, n, outs),
         Layer::Q6kIntegerRs => layers_integer::linear_q6_k_integer_rs(x, w, y, batch, n, outs),
         Layer::Q4kCpu => layers_cpu::linear_q4_k_cpu(x, w, y, scratch, batch, n, outs),
         Layer::Q6kCpu => layers_cpu::linear_q6_k_cpu(x, w, y, scratch, batch, n, outs),
@@ -131,6 +137,9 @@ pub fn judge_layer(tag: u8, payload: &[u8]) -> Finding {
         25 => judge(Layer::Q4kCpu, payload),
         26 => judge(Layer::Q6kCpu, payload),
         27 => judge(Layer::Q40Cpu, payload),
+        33 => judge(Layer::Q5kFused, payload),
+        34 => judge(Layer::Q5kInteger, payload),
+        35 => judge(Layer::Q5kIntegerRs, payload),
         _ => Finding::Unknown,
     }
 }

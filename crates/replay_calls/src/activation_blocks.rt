@@ -46,6 +46,7 @@ fn judge_quantize_block_q8(payload: &[u8]) -> Finding {
 fn block_dot(format: FormatK, w: &[u8], xq: Q8Block, n: usize) -> Answer {
     match format {
         FormatK::Q4K => dots_integer::dot_q4k_q8_block(w, xq, n),
+        FormatK::Q5K => dots_integer::dot_q5k_q8_block(w, xq, n),
         FormatK::Q6K => dots_integer::dot_q6k_q8_block(w, xq, n),
     }
 }
@@ -72,6 +73,7 @@ pub fn judge_activation_block(tag: u8, payload: &[u8]) -> Finding {
         13 => judge_quantize_block_q8(payload),
         14 => judge_block_dot(FormatK::Q4K, payload),
         15 => judge_block_dot(FormatK::Q6K, payload),
+        31 => judge_block_dot(FormatK::Q5K, payload),
         _ => Finding::Unknown,
     }
 }

@@ -15,6 +15,7 @@ enum Decoder {
     Q50,
     Q80,
     Q4k,
+    Q5k,
     Q6k,
 }
 
@@ -24,6 +25,7 @@ fn dequantize(decoder: Decoder, bytes: &[u8], out: &mut [f32]) -> Outcome {
         Decoder::Q50 => decoders::dequantize_q5_0(bytes, out),
         Decoder::Q80 => decoders::dequantize_q8_0(bytes, out),
         Decoder::Q4k => decoders::dequantize_q4_k(bytes, out),
+        Decoder::Q5k => decoders::dequantize_q5_k(bytes, out),
         Decoder::Q6k => decoders::dequantize_q6_k(bytes, out),
     }
 }
@@ -72,6 +74,7 @@ pub fn judge_block_decoder(tag: u8, payload: &[u8]) -> Finding {
         4 => judge_dequantize(Decoder::Q80, payload),
         5 => judge_dequantize(Decoder::Q4k, payload),
         6 => judge_dequantize(Decoder::Q6k, payload),
+        29 => judge_dequantize(Decoder::Q5k, payload),
         _ => Finding::Unknown,
     }
 }

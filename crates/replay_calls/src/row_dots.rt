@@ -9,14 +9,18 @@ const MOST: usize = 8_193;
 
 enum RowDot {
     IntegerQ4k,
+    IntegerQ5k,
     FusedQ4k,
+    FusedQ5k,
     FusedQ6k,
 }
 
 fn answer(dot: RowDot, x: &[f32], w: &[u8], n: usize) -> Answer {
     match dot {
         RowDot::IntegerQ4k => dots_integer_row::integer_dot_q4k(x, w, n),
+        RowDot::IntegerQ5k => dots_integer_row::integer_dot_q5k(x, w, n),
         RowDot::FusedQ4k => dots_fused::canonical_dot_q4k_fused(x, w, n),
+        RowDot::FusedQ5k => dots_fused::canonical_dot_q5k_fused(x, w, n),
         RowDot::FusedQ6k => dots_fused::q6k_fused_f32_dot(x, w, n),
     }
 }
@@ -60,6 +64,8 @@ pub fn judge_row_dot(tag: u8, payload: &[u8]) -> Finding {
         16 => judge_row(RowDot::IntegerQ4k, payload),
         17 => judge_row(RowDot::FusedQ4k, payload),
         18 => judge_row(RowDot::FusedQ6k, payload),
+        30 => judge_row(RowDot::FusedQ5k, payload),
+        32 => judge_row(RowDot::IntegerQ5k, payload),
         _ => Finding::Unknown,
     }
 }
