@@ -6,10 +6,10 @@
  * anything between calls, or needs to be set up, and any number of threads may call at once.
  *
  * How a call is written. A call has the name of the function of quant.rs that it answers for,
- * behind `jambharrow_`, and its parameters in that function's order. The four calls of the stepped
- * layer, which quant.rs does not have, are jambharrow_open, _piece, _run and _close. A slice is a
- * pointer and, right behind it, how many elements it has. Sizes and counts are jambharrow_size, of
- * 64 bits on every processor.
+ * behind `jambharrow_`, and its parameters in that function's order. quant.rs has no stepped layer,
+ * whose four calls are jambharrow_open, _piece, _run and _close, and no Q5_K, whose calls are named
+ * after those of Q4_K and take the same parameters. A slice is a pointer and, right behind it, how
+ * many elements it has. Sizes and counts are jambharrow_size, of 64 bits on every processor.
  *
  * What a pointer is. A slice's pointer may be null where its number of elements is 0; every other
  * pointer is to the one value or the array that its type says, and may not be null. A pointer is
@@ -49,7 +49,7 @@
 /* The version of this interface: the major number is another where callers have to change, and the
  * minor one where there is more to call. */
 #define JAMBHARROW_VERSION_MAJOR 2
-#define JAMBHARROW_VERSION_MINOR 0
+#define JAMBHARROW_VERSION_MINOR 1
 
 #ifdef __cplusplus
 extern "C" {
@@ -170,6 +170,12 @@ uint32_t jambharrow_dequantize_q8_0(const uint8_t *bytes, jambharrow_size bytes_
 uint32_t jambharrow_dequantize_q4_k(const uint8_t *bytes, jambharrow_size bytes_len,
                                     float *out, jambharrow_size out_len);
 
+/* Q5_K: a block is 176 bytes, d, dmin, scales and minimums as in Q4_K, 32 bytes of fifth bits and
+ * 128 bytes of nibbles as in Q4_K, and has 256 values, (d * scale) * q - (dmin * minimum). q is the
+ * nibble and 16 times its fifth bit, which for place l of sub-block j is bit j of byte l. */
+uint32_t jambharrow_dequantize_q5_k(const uint8_t *bytes, jambharrow_size bytes_len,
+                                    float *out, jambharrow_size out_len);
+
 /* Q6_K: a block is 210 bytes, 256 quants of six bits, 16 signed scales and d, and has 256 values,
  * (d * scale) * (quant - 32). */
 uint32_t jambharrow_dequantize_q6_k(const uint8_t *bytes, jambharrow_size bytes_len,
@@ -250,6 +256,15 @@ uint32_t jambharrow_dot_q4k_q8_block(const uint8_t *w, jambharrow_size w_len,
                                      float d, const int8_t qs[256], const int32_t bsums[8],
                                      jambharrow_size n, float *value, jambharrow_size blocks[2]);
 
+/* The dot of the Q5_K block at the front of w and an activation block: the same with q, the nibble
+ * and its fifth bit, in the place of the nibble. It refuses in the same order, with
+ *   JAMBHARROW_WEIGHTS_SHORT   fewer than 176 bytes;
+ *   JAMBHARROW_WRONG_SUMS      sums that are not the sums of the block's 32s.
+ * It needs at most 2,048 bytes of stack. */
+uint32_t jambharrow_dot_q5k_q8_block(const uint8_t *w, jambharrow_size w_len,
+                                     float d, const int8_t qs[256], const int32_t bsums[8],
+                                     jambharrow_size n, float *value, jambharrow_size blocks[2]);
+
 /* The dot of the Q6_K block at the front of w and an activation block: (w's d * d) * B, where B is
  * the sum of scale * (quant of w - 32) * quant over the places below n, above 256 taken as 256. The
  * sums are not looked at, nor are bytes behind the block. It needs at most 2,048 bytes of stack. It
@@ -276,9 +291,20 @@ uint32_t jambharrow_integer_dot_q4k(const float *x, jambharrow_size x_len,
                                     const uint8_t *w, jambharrow_size w_len,
                                     jambharrow_size n, float *value, jambharrow_size blocks[2]);
 
+/* Q5_K, in whole numbers: the same by jambharrow_dot_q5k_q8_block. */
+uint32_t jambharrow_integer_dot_q5k(const float *x, jambharrow_size x_len,
+                                    const uint8_t *w, jambharrow_size w_len,
+                                    jambharrow_size n, float *value, jambharrow_size blocks[2]);
+
 /* Q4_K, fused: what jambharrow_canonical_dot_pub answers for the decoded weights, with no room for
  * them. */
 uint32_t jambharrow_canonical_dot_q4k_fused(const float *x, jambharrow_size x_len,
+                                            const uint8_t *w, jambharrow_size w_len,
+                                            jambharrow_size n, float *value,
+                                            jambharrow_size blocks[2]);
+
+/* Q5_K, fused: the same. */
+uint32_t jambharrow_canonical_dot_q5k_fused(const float *x, jambharrow_size x_len,
                                             const uint8_t *w, jambharrow_size w_len,
                                             jambharrow_size n, float *value,
                                             jambharrow_size blocks[2]);
@@ -311,6 +337,13 @@ uint32_t jambharrow_linear_q4_k_fused(const float *x, jambharrow_size x_len,
                                       jambharrow_size batch, jambharrow_size in_feat,
                                       jambharrow_size out_feat, jambharrow_size blocks[2]);
 
+/* Q5_K, fused: the same by jambharrow_canonical_dot_q5k_fused, with as much stack. */
+uint32_t jambharrow_linear_q5_k_fused(const float *x, jambharrow_size x_len,
+                                      const uint8_t *w, jambharrow_size w_len,
+                                      float *y, jambharrow_size y_len,
+                                      jambharrow_size batch, jambharrow_size in_feat,
+                                      jambharrow_size out_feat, jambharrow_size blocks[2]);
+
 /* Q6_K, fused: the same by jambharrow_q6k_fused_f32_dot, with as much stack. */
 uint32_t jambharrow_linear_q6_k_fused(const float *x, jambharrow_size x_len,
                                       const uint8_t *w, jambharrow_size w_len,
@@ -327,6 +360,13 @@ uint32_t jambharrow_linear_q4_k_integer(const float *x, jambharrow_size x_len,
                                         jambharrow_size batch, jambharrow_size in_feat,
                                         jambharrow_size out_feat, jambharrow_size blocks[2]);
 
+/* Q5_K, in whole numbers: the same by jambharrow_dot_q5k_q8_block, with as much stack. */
+uint32_t jambharrow_linear_q5_k_integer(const float *x, jambharrow_size x_len,
+                                        const uint8_t *w, jambharrow_size w_len,
+                                        float *y, jambharrow_size y_len,
+                                        jambharrow_size batch, jambharrow_size in_feat,
+                                        jambharrow_size out_feat, jambharrow_size blocks[2]);
+
 /* Q6_K, in whole numbers: the same by jambharrow_dot_q6k_q8_block, with as much stack. */
 uint32_t jambharrow_linear_q6_k_integer(const float *x, jambharrow_size x_len,
                                         const uint8_t *w, jambharrow_size w_len,
@@ -337,6 +377,14 @@ uint32_t jambharrow_linear_q6_k_integer(const float *x, jambharrow_size x_len,
 /* Q4_K, in whole numbers as jambharrow_linear_q4_k_integer and with as much stack, but the dots of
  * the blocks meet in a running sum from +0.0. */
 uint32_t jambharrow_linear_q4_k_integer_rs(const float *x, jambharrow_size x_len,
+                                           const uint8_t *w, jambharrow_size w_len,
+                                           float *y, jambharrow_size y_len,
+                                           jambharrow_size batch, jambharrow_size in_feat,
+                                           jambharrow_size out_feat, jambharrow_size blocks[2]);
+
+/* Q5_K, in whole numbers as jambharrow_linear_q5_k_integer and with as much stack, but the dots of
+ * the blocks meet in a running sum from +0.0. */
+uint32_t jambharrow_linear_q5_k_integer_rs(const float *x, jambharrow_size x_len,
                                            const uint8_t *w, jambharrow_size w_len,
                                            float *y, jambharrow_size y_len,
                                            jambharrow_size batch, jambharrow_size in_feat,
@@ -404,8 +452,8 @@ uint32_t jambharrow_linear_q4_0_cpu(const float *x, jambharrow_size x_len,
  * them, and gives each call the same layer, weights and readings.
  *
  * After an open, in whatever order pieces are worked: a row can be closed once all its pieces are
- * done, and its output then has the bits of jambharrow_canonical_dot_q4k_fused or
- * jambharrow_q6k_fused_f32_dot on that row.
+ * done, and its output then has the bits of jambharrow_canonical_dot_q4k_fused,
+ * jambharrow_canonical_dot_q5k_fused or jambharrow_q6k_fused_f32_dot on that row.
  *
  * Each refuses, in this order, with
  *   JAMBHARROW_UNKNOWN          a format that is not of enum jambharrow_format;
@@ -423,6 +471,7 @@ uint32_t jambharrow_linear_q4_0_cpu(const float *x, jambharrow_size x_len,
 /* The formats of a stepped layer's weights. */
 enum jambharrow_format {
     JAMBHARROW_Q4_K = 4,
+    JAMBHARROW_Q5_K = 5,
     JAMBHARROW_Q6_K = 6
 };
 
