@@ -81,6 +81,24 @@ pub fn dot_q4k_q8_block(w: &[u8], xq: &Q8Block, n: usize) -> Result<f32, Refusal
     block_dot(sys::jambharrow_dot_q4k_q8_block, w, xq, n)
 }
 
+/// Does with the Q5_K block at the front of `w`, of 176 bytes, what [`dot_q4k_q8_block`] does with
+/// its own, and refuses as it does.
+///
+/// ```
+/// // d is 1, the first scale 2, and each whole number its fifth bit alone, 16.
+/// let mut w = [0; 176];
+/// w[..2].copy_from_slice(&[0x00, 0x3C]);
+/// w[4] = 2;
+/// w[16..48].fill(0xFF);
+/// let block = jambharrow::quantize_block_q8(&[127.0; 256])?;
+/// assert_eq!(jambharrow::dot_q5k_q8_block(&w, &block, 256)?, 32.0 * 127.0 * 32.0);
+/// # Ok::<(), jambharrow::Refusal>(())
+/// ```
+#[inline]
+pub fn dot_q5k_q8_block(w: &[u8], xq: &Q8Block, n: usize) -> Result<f32, Refusal> {
+    block_dot(sys::jambharrow_dot_q5k_q8_block, w, xq, n)
+}
+
 /// The dot of the Q6_K block at the front of `w` and an activation block: (d * dx) * B, where B
 /// counts the places below `n`, above 256 taken as 256. It looks at no sums. It refuses as
 /// [`Refusal::WeightsShort`] fewer than 210 bytes.
@@ -101,11 +119,20 @@ pub fn integer_dot_q4k(x: &[f32], w_q4k: &[u8], n: usize) -> Result<f32, Refusal
     row_dot(sys::jambharrow_integer_dot_q4k, x, w_q4k, n)
 }
 
+/// Does with Q5_K blocks what [`integer_dot_q4k`] does with its own, by [`dot_q5k_q8_block`].
+#[inline]
+pub fn integer_dot_q5k(x: &[f32], w_q5k: &[u8], n: usize) -> Result<f32, Refusal> {
+    row_dot(sys::jambharrow_integer_dot_q5k, x, w_q5k, n)
+}
+
 #[cfg(test)]
 mod tests {
     use super::*;
     use crate::refusal::short;
     use crate::MOST_IN;
+
+    /// The integer dot of a row.
+    type IntegerDot = fn(&[f32], &[u8], usize) -> Result<f32, Refusal>;
 
     /// A Q4_K block: d and dmin 1, the first scale and the first minimum as given, each nibble 1.
     fn q4_k(scale: u8, minimum: u8) -> [u8; 144] {
@@ -114,6 +141,15 @@ mod tests {
         block[4] = scale;
         block[8] = minimum;
         block[16..].fill(0x11);
+        block
+    }
+
+    /// The same in Q5_K, where each whole number is 17.
+    fn q5_k(scale: u8, minimum: u8) -> [u8; 176] {
+        let mut block = [0; 176];
+        block[..16].copy_from_slice(&q4_k(scale, minimum)[..16]);
+        block[16..48].fill(0xFF);
+        block[48..].fill(0x11);
         block
     }
 
@@ -164,6 +200,13 @@ mod tests {
         assert_eq!(dot(1_000), dot(256));
         assert_eq!(dot(16), Ok(1.5 * sum - sum));
         assert_eq!(dot(0), Ok(-sum));
+
+        let w = q5_k(3, 1);
+        let dot = |n| dot_q5k_q8_block(&w, &block, n);
+        assert_eq!(dot(256), Ok(51.0 * sum - sum));
+        assert_eq!(dot(1_000), dot(256));
+        assert_eq!(dot(16), Ok(25.5 * sum - sum));
+        assert_eq!(dot(0), Ok(-sum));
     }
 
     #[test]
@@ -186,11 +229,14 @@ mod tests {
         block.bsums[7] += 65_536;
         assert_eq!(dot_q4k_q8_block(&w, &block, 0), Err(Refusal::WrongSums));
         assert_eq!(dot_q4k_q8_block(&w[1..], &block, 0), Err(short(0, 1)));
+        let w = q5_k(1, 0);
+        assert_eq!(dot_q5k_q8_block(&w, &block, 0), Err(Refusal::WrongSums));
+        assert_eq!(dot_q5k_q8_block(&w[1..], &block, 0), Err(short(0, 1)));
     }
 
     #[test]
     fn value_and_counts_are_written_where_they_are_to_be() {
-        let (w, block) = (q4_k(1, 0), all_127());
+        let block = all_127();
         let wrong = Q8Block {
             bsums: [0; 8],
             ..block
@@ -202,11 +248,16 @@ mod tests {
             (number, values, counts)
         };
         let (no_value, no_counts, missing) = ([7.0; 3], [7; 4], [7, 0, 1, 7]);
-        let dot: BlockDot = sys::jambharrow_dot_q4k_q8_block;
-        let answered = [7.0, 32.0 * 127.0, 7.0];
-        assert_eq!(ask(dot, &w, &block), (0, answered, no_counts));
-        assert_eq!(ask(dot, &w, &wrong), (7, no_value, no_counts));
-        assert_eq!(ask(dot, &w[1..], &wrong), (3, no_value, missing));
+        let dots: [(BlockDot, &[u8], f32); 2] = [
+            (sys::jambharrow_dot_q4k_q8_block, &q4_k(1, 0), 1.0),
+            (sys::jambharrow_dot_q5k_q8_block, &q5_k(1, 0), 17.0),
+        ];
+        for (dot, w, quant) in dots {
+            let answered = [7.0, quant * 32.0 * 127.0, 7.0];
+            assert_eq!(ask(dot, w, &block), (0, answered, no_counts));
+            assert_eq!(ask(dot, w, &wrong), (7, no_value, no_counts));
+            assert_eq!(ask(dot, &w[1..], &wrong), (3, no_value, missing));
+        }
         let dot: BlockDot = sys::jambharrow_dot_q6k_q8_block;
         assert_eq!(ask(dot, &[0; 210], &block), (0, [7.0, 0.0, 7.0], no_counts));
         assert_eq!(ask(dot, &[0; 209], &block), (3, no_value, missing));
@@ -218,17 +269,26 @@ mod tests {
         let x = [127.0; 257];
         assert_eq!(integer_dot_q4k(&x, &w, 257), Ok(32.0 * 127.0 + 2.0 * 127.0));
         assert_eq!(integer_dot_q4k(&x, &w, 1), Ok(127.0));
+        let w = [q5_k(1, 0), q5_k(2, 0)].concat();
+        let both = 17.0 * (32.0 * 127.0 + 2.0 * 127.0);
+        assert_eq!(integer_dot_q5k(&x, &w, 257), Ok(both));
+        assert_eq!(integer_dot_q5k(&x, &w, 1), Ok(17.0 * 127.0));
     }
 
     #[test]
     fn refusals_of_a_row_come_in_their_order() {
         let x = [1.0; 257];
-        let w = q4_k(1, 0);
-        let dot = |w: &[u8], n| integer_dot_q4k(&x, w, n);
-        assert_eq!(dot(&w[1..], MOST_IN + 1), Err(Refusal::TooLarge));
-        assert_eq!(dot(&w[1..], 0), Err(Refusal::NotWholeBlocks));
-        assert_eq!(dot(&w, 0).map(f32::to_bits), Ok(0));
-        assert_eq!(dot(&w, 258), Err(short(1, 2)));
-        assert_eq!(dot(&[w, w].concat(), 258), Err(Refusal::ReadingsShort));
+        let dots: [(IntegerDot, &[u8]); 2] = [
+            (integer_dot_q4k, &q4_k(1, 0)),
+            (integer_dot_q5k, &q5_k(1, 0)),
+        ];
+        for (dot, w) in dots {
+            let dot = |w: &[u8], n| dot(&x, w, n);
+            assert_eq!(dot(&w[1..], MOST_IN + 1), Err(Refusal::TooLarge));
+            assert_eq!(dot(&w[1..], 0), Err(Refusal::NotWholeBlocks));
+            assert_eq!(dot(w, 0).map(f32::to_bits), Ok(0));
+            assert_eq!(dot(w, 258), Err(short(1, 2)));
+            assert_eq!(dot(&[w, w].concat(), 258), Err(Refusal::ReadingsShort));
+        }
     }
 }

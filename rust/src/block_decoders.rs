@@ -36,6 +36,27 @@ pub fn dequantize_q4_k(bytes: &[u8], out: &mut [f32]) -> Result<(), Refusal> {
     decode(sys::jambharrow_dequantize_q4_k, bytes, out)
 }
 
+/// Does with Q5_K blocks, 176 bytes to 256 values, what [`dequantize_q4_0`] does with its own. The
+/// scales, minimums and nibbles are those of Q4_K; the fifth bit of place l of sub-block j, which
+/// counts 16, is bit j of byte l of 32 that stand before the nibbles.
+///
+/// ```
+/// // d and the first scale are 1, and of the first 32 whole numbers the first alone has its fifth bit.
+/// let mut block = [0; 176];
+/// block[..2].copy_from_slice(&[0x00, 0x3C]);
+/// block[4] = 1;
+/// block[16] = 0b0000_0001;
+/// block[48..].fill(0x03);
+/// let mut out = [0.0; 256];
+/// jambharrow::dequantize_q5_k(&block, &mut out)?;
+/// assert_eq!(out[..3], [19.0, 3.0, 3.0]);
+/// # Ok::<(), jambharrow::Refusal>(())
+/// ```
+#[inline]
+pub fn dequantize_q5_k(bytes: &[u8], out: &mut [f32]) -> Result<(), Refusal> {
+    decode(sys::jambharrow_dequantize_q5_k, bytes, out)
+}
+
 /// Does with Q6_K blocks, 210 bytes to 256 values, what [`dequantize_q4_0`] does with its own.
 #[inline]
 pub fn dequantize_q6_k(bytes: &[u8], out: &mut [f32]) -> Result<(), Refusal> {
@@ -88,6 +109,27 @@ mod tests {
     }
 
     #[test]
+    fn a_fifth_bit_is_that_of_its_sub_block_and_place() {
+        // d and dmin 1; all scales and minimums 1; each nibble 2.
+        let mut q5_k = [0; 176];
+        q5_k[..4].copy_from_slice(&[0x00, 0x3C, 0x00, 0x3C]);
+        q5_k[4..12].fill(1);
+        q5_k[12..16].fill(0x11);
+        q5_k[48..].fill(0x22);
+        for sub_block in 0..8 {
+            for place in [0, 1, 30, 31] {
+                let mut block = q5_k;
+                block[16 + place] = 1 << sub_block;
+                let mut wanted = [1.0; 256];
+                wanted[32 * sub_block + place] = 17.0;
+                let mut out = [7.0; 256];
+                assert_eq!(dequantize_q5_k(&block, &mut out), Ok(()));
+                assert_eq!(out, wanted);
+            }
+        }
+    }
+
+    #[test]
     fn surplus_places_are_kept() {
         let mut out = [7.0; 34];
         assert_eq!(dequantize_q8_0(&[0; 34], &mut out), Ok(()));
@@ -109,5 +151,11 @@ mod tests {
         );
         assert_eq!(dequantize_q4_0(&[0; 18], &mut out), Err(Refusal::RoomShort));
         assert_eq!(out, [7.0; 31]);
+        let mut out = [7.0; 255];
+        let mut ask = |bytes| dequantize_q5_k(&vec![0; bytes], &mut out);
+        assert_eq!(ask(MOST_BYTES + 1), Err(Refusal::TooLarge));
+        assert_eq!(ask(177), Err(Refusal::NotWholeBlocks));
+        assert_eq!(ask(176), Err(Refusal::RoomShort));
+        assert_eq!(out, [7.0; 255]);
     }
 }

@@ -6,7 +6,8 @@
 //! that returns a vector, it fills memory that is lent to it, where that decodes a layer's weights
 //! into a vector, it takes scratch for a row of them, and where it can refuse, it says why.
 //! Where a result is a NaN, its bits may be those of any NaN; every other result has the bits of
-//! quant.rs, within the sizes below.
+//! quant.rs, within the sizes below. quant.rs has no Q5_K: the functions of that format are named
+//! after those of Q4_K, and have their formulas and order of operations.
 
 mod activation_blocks;
 mod binary16;
@@ -21,22 +22,23 @@ mod stepped_layer;
 mod sys;
 
 pub use activation_blocks::{
-    dot_q4k_q8_block, dot_q6k_q8_block, integer_dot_q4k, quantize_block_q8, quantize_block_q8_into,
-    Q8Block,
+    dot_q4k_q8_block, dot_q5k_q8_block, dot_q6k_q8_block, integer_dot_q4k, integer_dot_q5k,
+    quantize_block_q8, quantize_block_q8_into, Q8Block,
 };
 pub use binary16::{f16_to_f32, f32_to_f16};
 pub use block_decoders::{
-    dequantize_q4_0, dequantize_q4_k, dequantize_q5_0, dequantize_q6_k, dequantize_q8_0,
+    dequantize_q4_0, dequantize_q4_k, dequantize_q5_0, dequantize_q5_k, dequantize_q6_k,
+    dequantize_q8_0,
 };
 pub use block_quantizers::{quantize_q4_0, quantize_q8_0};
 pub use fixed_order_sums::{
     canonical_chunk, canonical_combine, canonical_dot_pub, canonical_sum_pub,
 };
-pub use fused_dots::{canonical_dot_q4k_fused, q6k_fused_f32_dot};
+pub use fused_dots::{canonical_dot_q4k_fused, canonical_dot_q5k_fused, q6k_fused_f32_dot};
 pub use linear_layers::{
     linear_q4_0_cpu, linear_q4_k_cpu, linear_q4_k_fused, linear_q4_k_integer,
-    linear_q4_k_integer_rs, linear_q6_k_cpu, linear_q6_k_fused, linear_q6_k_integer,
-    linear_q6_k_integer_rs,
+    linear_q4_k_integer_rs, linear_q5_k_fused, linear_q5_k_integer, linear_q5_k_integer_rs,
+    linear_q6_k_cpu, linear_q6_k_fused, linear_q6_k_integer, linear_q6_k_integer_rs,
 };
 pub use refusal::{Blocks, Refusal};
 pub use stepped_layer::{Layer, Progress};

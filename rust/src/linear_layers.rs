@@ -76,6 +76,34 @@ pub fn linear_q4_k_fused(
     linear(sys::jambharrow_linear_q4_k_fused, x, w_q4k, y_out, sizes)
 }
 
+/// Does with Q5_K blocks what [`linear_q4_k_fused`] does with its own, by
+/// [`canonical_dot_q5k_fused`](crate::canonical_dot_q5k_fused).
+///
+/// ```
+/// // One block, whose first 32 weights are 17, and the others 0: their fifth bits are set.
+/// let mut w = [0; 176];
+/// w[..2].copy_from_slice(&[0x00, 0x3C]);
+/// w[4] = 1;
+/// w[16..48].fill(0x01);
+/// w[48..].fill(0x11);
+/// let mut y = [0.0; 2];
+/// jambharrow::linear_q5_k_fused(&[1.0; 512], &w, &mut y, 2, 256, 1)?;
+/// assert_eq!(y, [544.0, 544.0]);
+/// # Ok::<(), jambharrow::Refusal>(())
+/// ```
+#[inline]
+pub fn linear_q5_k_fused(
+    x: &[f32],
+    w_q5k: &[u8],
+    y_out: &mut [f32],
+    batch: usize,
+    in_feat: usize,
+    out_feat: usize,
+) -> Result<(), Refusal> {
+    let sizes = [batch, in_feat, out_feat];
+    linear(sys::jambharrow_linear_q5_k_fused, x, w_q5k, y_out, sizes)
+}
+
 /// Does with Q6_K blocks what [`linear_q4_k_fused`] does with its own, by
 /// [`q6k_fused_f32_dot`](crate::q6k_fused_f32_dot).
 #[inline]
@@ -105,6 +133,21 @@ pub fn linear_q4_k_integer(
 ) -> Result<(), Refusal> {
     let sizes = [batch, in_feat, out_feat];
     linear(sys::jambharrow_linear_q4_k_integer, x, w_q4k, y_out, sizes)
+}
+
+/// Does with Q5_K blocks what [`linear_q4_k_integer`] does with its own, by
+/// [`integer_dot_q5k`](crate::integer_dot_q5k).
+#[inline]
+pub fn linear_q5_k_integer(
+    x: &[f32],
+    w_q5k: &[u8],
+    y_out: &mut [f32],
+    batch: usize,
+    in_feat: usize,
+    out_feat: usize,
+) -> Result<(), Refusal> {
+    let sizes = [batch, in_feat, out_feat];
+    linear(sys::jambharrow_linear_q5_k_integer, x, w_q5k, y_out, sizes)
 }
 
 /// Does with Q6_K blocks what [`linear_q4_k_integer`] does with its own, by
@@ -138,6 +181,26 @@ pub fn linear_q4_k_integer_rs(
         sys::jambharrow_linear_q4_k_integer_rs,
         x,
         w_q4k,
+        y_out,
+        sizes,
+    )
+}
+
+/// Does with Q5_K blocks what [`linear_q4_k_integer_rs`] does with its own.
+#[inline]
+pub fn linear_q5_k_integer_rs(
+    x: &[f32],
+    w_q5k: &[u8],
+    y_out: &mut [f32],
+    batch: usize,
+    in_feat: usize,
+    out_feat: usize,
+) -> Result<(), Refusal> {
+    let sizes = [batch, in_feat, out_feat];
+    linear(
+        sys::jambharrow_linear_q5_k_integer_rs,
+        x,
+        w_q5k,
         y_out,
         sizes,
     )
@@ -270,6 +333,15 @@ mod tests {
         block
     }
 
+    /// A Q5_K block whose first 32 weights are 16 more than the one given, and the others 0.
+    fn q5_k(weight: u8) -> [u8; 176] {
+        let mut block = [0; 176];
+        block[..16].copy_from_slice(&q4_k(weight)[..16]);
+        block[16..48].fill(0x01);
+        block[48..].copy_from_slice(&q4_k(weight)[16..]);
+        block
+    }
+
     /// A Q6_K block whose first 16 weights are 32 times the scale given, and the others 0: each
     /// quant is 0 - 32, and d is -1.
     fn q6_k(scale: u8) -> [u8; 210] {
@@ -293,6 +365,11 @@ mod tests {
         assert_eq!(linear_q4_k_fused(&x, &w, &mut y, 2, 256, 3), Ok(()));
         assert_eq!(y, wanted);
 
+        let w = [q5_k(1), q5_k(2), q5_k(3)].concat();
+        let mut y = [7.0; 7];
+        assert_eq!(linear_q5_k_fused(&x, &w, &mut y, 2, 256, 3), Ok(()));
+        assert_eq!(y, [544.0, 576.0, 608.0, 1088.0, 1152.0, 1216.0, 7.0]);
+
         let w = [q6_k(1), q6_k(2), q6_k(3)].concat();
         let wanted = wanted.map(|wanted| if wanted == 7.0 { 7.0 } else { 16.0 * wanted });
         let mut y = [7.0; 7];
@@ -312,6 +389,16 @@ mod tests {
             assert_eq!(layer(&x, &w, &mut y, 2, 256, 3), Ok(()));
             assert_eq!(y, wanted);
         }
+        let w = [q5_k(1), q5_k(2), q5_k(3)].concat();
+        let layers: [Plain; 2] = [linear_q5_k_integer, linear_q5_k_integer_rs];
+        for layer in layers {
+            let mut y = [7.0; 7];
+            assert_eq!(layer(&x, &w, &mut y, 2, 256, 3), Ok(()));
+            let first = [17.0, 18.0, 19.0].map(|weight| 4064.0 * weight);
+            assert_eq!(y[..3], first);
+            assert_eq!(y[3..6], first.map(|output| -output));
+            assert_eq!(y[6], 7.0);
+        }
         let w = [q6_k(1), q6_k(2), q6_k(3)].concat();
         let wanted = wanted.map(|wanted| if wanted == 7.0 { 7.0 } else { 16.0 * wanted });
         let layers: [Plain; 2] = [linear_q6_k_integer, linear_q6_k_integer_rs];
@@ -324,15 +411,21 @@ mod tests {
 
     #[test]
     fn the_tree_keeps_a_minus_nought_and_a_running_sum_does_not() {
-        // d is -1, dmin 1, and the rest 0.
-        let mut w = [0; 144];
+        // d is -1, dmin 1, and the rest 0, as many bytes as a block of either format has.
+        let mut w = [0; 176];
         w[..4].copy_from_slice(&[0x00, 0xBC, 0x00, 0x3C]);
         let x = [0.0; 256];
-        let mut y = [7.0];
-        assert_eq!(linear_q4_k_integer(&x, &w, &mut y, 1, 256, 1), Ok(()));
-        assert_eq!(y[0].to_bits(), 0x8000_0000);
-        assert_eq!(linear_q4_k_integer_rs(&x, &w, &mut y, 1, 256, 1), Ok(()));
-        assert_eq!(y[0].to_bits(), 0x0000_0000);
+        let layers: [[Plain; 2]; 2] = [
+            [linear_q4_k_integer, linear_q4_k_integer_rs],
+            [linear_q5_k_integer, linear_q5_k_integer_rs],
+        ];
+        for [tree, running_sum] in layers {
+            let mut y = [7.0];
+            assert_eq!(tree(&x, &w, &mut y, 1, 256, 1), Ok(()));
+            assert_eq!(y[0].to_bits(), 0x8000_0000);
+            assert_eq!(running_sum(&x, &w, &mut y, 1, 256, 1), Ok(()));
+            assert_eq!(y[0].to_bits(), 0x0000_0000);
+        }
     }
 
     #[test]
@@ -388,6 +481,9 @@ mod tests {
         let fused = |w: &[u8], y: &mut [f32]| linear_q4_k_fused(&[], w, y, 0, 256, 1);
         assert_eq!(fused(&[0; 143], &mut y), Err(short(0, 1)));
         assert_eq!(fused(&[0; 144], &mut y), Ok(()));
+        let fused = |w: &[u8], y: &mut [f32]| linear_q5_k_fused(&[], w, y, 0, 256, 1);
+        assert_eq!(fused(&[0; 175], &mut y), Err(short(0, 1)));
+        assert_eq!(fused(&[0; 176], &mut y), Ok(()));
         let mut scratch = [7.0; 256];
         let w = q4_k(1);
         let done = linear_q4_k_cpu(&[], &w, &mut [], &mut scratch, 0, 256, 1);
@@ -398,12 +494,15 @@ mod tests {
 
     #[test]
     fn refusals_come_in_their_order_and_keep_the_output() {
-        let layers: [Plain; 6] = [
+        let layers: [Plain; 9] = [
             linear_q4_k_fused,
+            linear_q5_k_fused,
             linear_q6_k_fused,
             linear_q4_k_integer,
+            linear_q5_k_integer,
             linear_q6_k_integer,
             linear_q4_k_integer_rs,
+            linear_q5_k_integer_rs,
             linear_q6_k_integer_rs,
         ];
         for layer in layers {
@@ -425,12 +524,15 @@ mod tests {
     }
 
     /// The layers without scratch, and how many bytes a block of each has.
-    const LAYERS: [(Layer, usize); 6] = [
+    const LAYERS: [(Layer, usize); 9] = [
         (sys::jambharrow_linear_q4_k_fused, 144),
+        (sys::jambharrow_linear_q5_k_fused, 176),
         (sys::jambharrow_linear_q6_k_fused, 210),
         (sys::jambharrow_linear_q4_k_integer, 144),
+        (sys::jambharrow_linear_q5_k_integer, 176),
         (sys::jambharrow_linear_q6_k_integer, 210),
         (sys::jambharrow_linear_q4_k_integer_rs, 144),
+        (sys::jambharrow_linear_q5_k_integer_rs, 176),
         (sys::jambharrow_linear_q6_k_integer_rs, 210),
     ];
 

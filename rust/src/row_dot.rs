@@ -29,9 +29,11 @@ mod tests {
     use crate::{sys, MOST_IN};
 
     /// The row dots, and how many bytes a block of each has.
-    const DOTS: [(RowDot, usize); 3] = [
+    const DOTS: [(RowDot, usize); 5] = [
         (sys::jambharrow_integer_dot_q4k, 144),
+        (sys::jambharrow_integer_dot_q5k, 176),
         (sys::jambharrow_canonical_dot_q4k_fused, 144),
+        (sys::jambharrow_canonical_dot_q5k_fused, 176),
         (sys::jambharrow_q6k_fused_f32_dot, 210),
     ];
 

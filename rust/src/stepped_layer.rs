@@ -6,8 +6,8 @@ use crate::sys::{self, Size};
 /// A layer that is worked by pieces. A piece is one chunk, of at most 8,192 places, of one row; it
 /// has a slot, where its sum waits, and a mark, which is nonzero once it is done. Slots and marks go
 /// row by row, and are all that the work leaves behind: whoever keeps them can stop after any call
-/// and go on later. A closed row has the bits of [`canonical_dot_q4k_fused`] or
-/// [`q6k_fused_f32_dot`], whatever the order of its pieces.
+/// and go on later. A closed row has the bits of [`canonical_dot_q4k_fused`],
+/// [`canonical_dot_q5k_fused`] or [`q6k_fused_f32_dot`], whatever the order of its pieces.
 ///
 /// A call refuses, in this order, as [`Refusal::Unknown`] an unknown format, as
 /// [`Refusal::TooLarge`] an `in_feat` over [`MOST_IN`](crate::MOST_IN) or an `out_feat` over
@@ -33,10 +33,11 @@ use crate::sys::{self, Size};
 /// ```
 ///
 /// [`canonical_dot_q4k_fused`]: crate::canonical_dot_q4k_fused
+/// [`canonical_dot_q5k_fused`]: crate::canonical_dot_q5k_fused
 /// [`q6k_fused_f32_dot`]: crate::q6k_fused_f32_dot
 #[derive(Debug, Clone, Copy, PartialEq, Eq, Hash)]
 pub struct Layer {
-    /// The format of the weights: [`Layer::Q4_K`] or [`Layer::Q6_K`].
+    /// The format of the weights: [`Layer::Q4_K`], [`Layer::Q5_K`] or [`Layer::Q6_K`].
     pub format: u8,
     /// How many readings go in.
     pub in_feat: usize,
@@ -56,6 +57,8 @@ pub struct Progress {
 impl Layer {
     /// The format byte of Q4_K.
     pub const Q4_K: u8 = 4;
+    /// The format byte of Q5_K.
+    pub const Q5_K: u8 = 5;
     /// The format byte of Q6_K.
     pub const Q6_K: u8 = 6;
 
@@ -186,7 +189,8 @@ impl Layer {
 mod tests {
     use super::*;
     use crate::refusal::short;
-    use crate::{canonical_dot_q4k_fused, q6k_fused_f32_dot, MOST_IN, MOST_OUT};
+    use crate::{canonical_dot_q4k_fused, canonical_dot_q5k_fused, q6k_fused_f32_dot};
+    use crate::{MOST_IN, MOST_OUT};
 
     /// Three rows of two chunks, the second of one block.
     const LAYER: Layer = Layer {
@@ -195,7 +199,9 @@ mod tests {
         out_feat: 3,
     };
     const PIECES: usize = 6;
-    const ROW: usize = 33 * 144;
+
+    /// A row's dot in one go.
+    type RowDot = fn(&[f32], &[u8], usize) -> Result<f32, Refusal>;
 
     /// Weights of no pattern, whose scales d and dmin are small halves.
     fn weights(block: usize, scales: &[usize]) -> Vec<u8> {
@@ -243,22 +249,30 @@ mod tests {
 
     #[test]
     fn a_layer_across_wake_slots() {
-        let (w, x) = (weights(144, &[0, 2]), readings());
-        let mut kept = Kept::new();
-        assert_eq!(kept.wake(|slots, marks| LAYER.open(slots, marks)), Ok(()));
-        for (done, left) in [(2, 4), (2, 2), (2, 0), (0, 0)] {
-            let run = kept.wake(|slots, marks| LAYER.run(&w, &x, 2, slots, marks));
-            assert_eq!(run, Ok(Progress { done, left }));
+        let formats: [(u8, usize, RowDot); 2] = [
+            (Layer::Q4_K, 144, canonical_dot_q4k_fused),
+            (Layer::Q5_K, 176, canonical_dot_q5k_fused),
+        ];
+        for (format, block, row_dot) in formats {
+            let layer = Layer { format, ..LAYER };
+            let (w, x) = (weights(block, &[0, 2]), readings());
+            let mut kept = Kept::new();
+            assert_eq!(kept.wake(|slots, marks| layer.open(slots, marks)), Ok(()));
+            for (done, left) in [(2, 4), (2, 2), (2, 0), (0, 0)] {
+                let run = kept.wake(|slots, marks| layer.run(&w, &x, 2, slots, marks));
+                assert_eq!(run, Ok(Progress { done, left }));
+            }
+            let mut y = [7.0; 4];
+            for row in [2, 0, 1, 0] {
+                let close = kept.wake(|slots, marks| layer.close(row, slots, marks, &mut y));
+                assert_eq!(close, Ok(()));
+                let bytes = 33 * block;
+                let one_go = row_dot(&x, &w[row * bytes..][..bytes], 8_448);
+                assert_eq!(Ok(y[row].to_bits()), one_go.map(f32::to_bits));
+                assert!(y[row].is_normal());
+            }
+            assert_eq!(y[3], 7.0);
         }
-        let mut y = [7.0; 4];
-        for row in [2, 0, 1, 0] {
-            let close = kept.wake(|slots, marks| LAYER.close(row, slots, marks, &mut y));
-            assert_eq!(close, Ok(()));
-            let one_go = canonical_dot_q4k_fused(&x, &w[row * ROW..][..ROW], 8_448);
-            assert_eq!(Ok(y[row].to_bits()), one_go.map(f32::to_bits));
-            assert!(y[row].is_normal());
-        }
-        assert_eq!(y[3], 7.0);
     }
 
     #[test]
@@ -334,7 +348,7 @@ mod tests {
             layer.piece(w, x, row, 0, &mut slots[..room], &mut marks)
         };
         let (most, none): (_, &[u8]) = (MOST_IN + 1, &[]);
-        assert_eq!(piece(5, most, 3, none, &[], 0, 3), Err(Refusal::Unknown));
+        assert_eq!(piece(3, most, 3, none, &[], 0, 3), Err(Refusal::Unknown));
         assert_eq!(piece(4, most, 3, none, &[], 0, 3), Err(Refusal::TooLarge));
         let rows = MOST_OUT + 1;
         assert_eq!(piece(4, 1, rows, none, &[], 0, 3), Err(Refusal::TooLarge));
@@ -353,7 +367,8 @@ mod tests {
 
     #[test]
     fn short_weights_are_counted_in_whole_blocks() {
-        for (format, block) in [(Layer::Q4_K, 144), (Layer::Q6_K, 210)] {
+        let formats = [(Layer::Q4_K, 144), (Layer::Q5_K, 176), (Layer::Q6_K, 210)];
+        for (format, block) in formats {
             let layer = Layer {
                 format,
                 in_feat: 4_096,
@@ -397,7 +412,8 @@ mod tests {
         assert_eq!(run(4, 144, 256, 1), (0, [7, 0, 0, 7], none));
         assert_eq!(run(4, 143, 256, 0), (3, none, [7, 0, 1, 7]));
         assert_eq!(run(4, 144, 255, 0), (4, none, none));
-        assert_eq!(run(5, 143, 256, 0), (12, none, none));
+        assert_eq!(run(5, 144, 256, 0), (3, none, [7, 0, 1, 7]));
+        assert_eq!(run(7, 143, 256, 0), (12, none, none));
     }
 
     /// The same of the C function `piece`, and a row.
@@ -426,6 +442,7 @@ mod tests {
         assert_eq!(piece(4, 144, 255, 0, 0), (4, none));
         assert_eq!(piece(4, 144, 256, 1, 0), (8, none));
         assert_eq!(piece(4, 144, 256, 0, 1), (9, none));
-        assert_eq!(piece(5, 143, 256, 0, 0), (12, none));
+        assert_eq!(piece(5, 144, 256, 0, 0), (3, [7, 0, 1, 7]));
+        assert_eq!(piece(7, 143, 256, 0, 0), (12, none));
     }
 }

@@ -86,6 +86,12 @@ unsafe extern "C" {
         out: *mut f32,
         out_len: Size,
     ) -> u32;
+    pub fn jambharrow_dequantize_q5_k(
+        bytes: *const u8,
+        bytes_len: Size,
+        out: *mut f32,
+        out_len: Size,
+    ) -> u32;
     pub fn jambharrow_dequantize_q6_k(
         bytes: *const u8,
         bytes_len: Size,
@@ -138,6 +144,16 @@ unsafe extern "C" {
         value: *mut f32,
         blocks: *mut [Size; 2],
     ) -> u32;
+    pub fn jambharrow_dot_q5k_q8_block(
+        w: *const u8,
+        w_len: Size,
+        d: f32,
+        qs: *const [i8; 256],
+        bsums: *const [i32; 8],
+        n: Size,
+        value: *mut f32,
+        blocks: *mut [Size; 2],
+    ) -> u32;
     pub fn jambharrow_dot_q6k_q8_block(
         w: *const u8,
         w_len: Size,
@@ -157,8 +173,26 @@ unsafe extern "C" {
         value: *mut f32,
         blocks: *mut [Size; 2],
     ) -> u32;
+    pub fn jambharrow_integer_dot_q5k(
+        x: *const f32,
+        x_len: Size,
+        w: *const u8,
+        w_len: Size,
+        n: Size,
+        value: *mut f32,
+        blocks: *mut [Size; 2],
+    ) -> u32;
 
     pub fn jambharrow_canonical_dot_q4k_fused(
+        x: *const f32,
+        x_len: Size,
+        w: *const u8,
+        w_len: Size,
+        n: Size,
+        value: *mut f32,
+        blocks: *mut [Size; 2],
+    ) -> u32;
+    pub fn jambharrow_canonical_dot_q5k_fused(
         x: *const f32,
         x_len: Size,
         w: *const u8,
@@ -178,6 +212,18 @@ unsafe extern "C" {
     ) -> u32;
 
     pub fn jambharrow_linear_q4_k_fused(
+        x: *const f32,
+        x_len: Size,
+        w: *const u8,
+        w_len: Size,
+        y: *mut f32,
+        y_len: Size,
+        batch: Size,
+        in_feat: Size,
+        out_feat: Size,
+        blocks: *mut [Size; 2],
+    ) -> u32;
+    pub fn jambharrow_linear_q5_k_fused(
         x: *const f32,
         x_len: Size,
         w: *const u8,
@@ -214,6 +260,18 @@ unsafe extern "C" {
         out_feat: Size,
         blocks: *mut [Size; 2],
     ) -> u32;
+    pub fn jambharrow_linear_q5_k_integer(
+        x: *const f32,
+        x_len: Size,
+        w: *const u8,
+        w_len: Size,
+        y: *mut f32,
+        y_len: Size,
+        batch: Size,
+        in_feat: Size,
+        out_feat: Size,
+        blocks: *mut [Size; 2],
+    ) -> u32;
     pub fn jambharrow_linear_q6_k_integer(
         x: *const f32,
         x_len: Size,
@@ -227,6 +285,18 @@ unsafe extern "C" {
         blocks: *mut [Size; 2],
     ) -> u32;
     pub fn jambharrow_linear_q4_k_integer_rs(
+        x: *const f32,
+        x_len: Size,
+        w: *const u8,
+        w_len: Size,
+        y: *mut f32,
+        y_len: Size,
+        batch: Size,
+        in_feat: Size,
+        out_feat: Size,
+        blocks: *mut [Size; 2],
+    ) -> u32;
+    pub fn jambharrow_linear_q5_k_integer_rs(
         x: *const f32,
         x_len: Size,
         w: *const u8,

@@ -8,11 +8,13 @@ const LAYER: Layer = Layer {
 };
 
 /// The bytes of the weights that are given, and the blocks that are found in them: those of 2,048 to
-/// 16, its own that were cut, those of 4,096 to 12, those of 2,048 to 16 in Q6_K, and nothing.
-const GIVEN: [(usize, u64); 5] = [
+/// 16, its own that were cut, those of 4,096 to 12, those of 2,048 to 16 in Q5_K and in Q6_K, and
+/// nothing.
+const GIVEN: [(usize, u64); 6] = [
     (18_432, 128),
     (20_000, 138),
     (27_648, 192),
+    (22_528, 156),
     (26_880, 186),
     (0, 0),
 ];

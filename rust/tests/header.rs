@@ -1,5 +1,5 @@
 //! The crate beside include/jambharrow.h: the same version, numbers, words and sizes.
-use jambharrow::{Refusal, MOST_BATCH, MOST_BYTES, MOST_FLOATS, MOST_IN, MOST_OUT};
+use jambharrow::{Layer, Refusal, MOST_BATCH, MOST_BYTES, MOST_FLOATS, MOST_IN, MOST_OUT};
 
 const HEADER: &str = include_str!("../../include/jambharrow.h");
 
@@ -25,10 +25,10 @@ fn c_name(refusal: Refusal) -> String {
     words
 }
 
-/// What the header says of each name of an enum, as `NAME = 1`, but for that of no refusal.
-fn numbers() -> Vec<(String, u32)> {
+/// What the header says of each name of an enum, as `NAME = 1`.
+fn numbers(name: &str) -> Vec<(String, u32)> {
     let of_enum = HEADER
-        .split("enum jambharrow_refusal {")
+        .split(&format!("enum {name} {{"))
         .nth(1)
         .and_then(|rest| rest.split('}').next())
         .expect("the header has the enum");
@@ -37,8 +37,7 @@ fn numbers() -> Vec<(String, u32)> {
         let (name, number) = line.trim_end_matches(',').split_once(" = ")?;
         Some((name.to_string(), number.parse().expect("a whole number")))
     };
-    let all = of_enum.lines().filter_map(pair);
-    all.filter(|(name, _)| name != "DONE").collect()
+    of_enum.lines().filter_map(pair).collect()
 }
 
 /// What stands between the quotes of a line.
@@ -59,8 +58,9 @@ fn words() -> Vec<(String, String)> {
 
 #[test]
 fn numbers_are_the_same() {
-    let ours = Refusal::ALL.map(|refusal| (c_name(refusal), refusal.number()));
-    assert_eq!(numbers(), ours);
+    let mut ours = vec![("DONE".into(), 0)];
+    ours.extend(Refusal::ALL.map(|refusal| (c_name(refusal), refusal.number())));
+    assert_eq!(numbers("jambharrow_refusal"), ours);
 }
 
 #[test]
@@ -82,6 +82,17 @@ fn what_is_no_refusal_has_words_of_its_own() {
     for (name, words) in words() {
         assert!(!own.contains(&words), "{name}: {words}");
     }
+}
+
+#[test]
+fn formats_are_the_same() {
+    let ours = [
+        ("Q4_K", Layer::Q4_K),
+        ("Q5_K", Layer::Q5_K),
+        ("Q6_K", Layer::Q6_K),
+    ];
+    let ours = ours.map(|(name, byte)| (name.into(), byte.into()));
+    assert_eq!(numbers("jambharrow_format"), ours);
 }
 
 /// What the header defines a name to be.
