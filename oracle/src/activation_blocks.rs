@@ -3,6 +3,7 @@ use crate::block_counts::short;
 use crate::calls::Call;
 use crate::compare::{Compared, Comparison};
 use crate::held;
+use crate::q5_k;
 use crate::row_dots::RowDot;
 use crate::sample::{count, floats, Records};
 use jambharrow::{Q8Block, Refusal};
@@ -36,25 +37,51 @@ pub const INTEGER_DOT_Q4K: Call = Call {
     sample: |records| INTEGER_Q4_K.sample(records),
 };
 
+pub const DOT_Q5K_Q8_BLOCK: Call = Call {
+    name: "dot_q5k_q8_block",
+    compare: |comparison| Q5_K.compare(comparison),
+    sample: |records| Q5_K.sample(records),
+};
+
+pub const INTEGER_DOT_Q5K: Call = Call {
+    name: "integer_dot_q5k",
+    compare: |comparison| INTEGER_Q5_K.compare(comparison),
+    sample: |records| INTEGER_Q5_K.sample(records),
+};
+
 const Q4_K: BlockDot = BlockDot {
     layout: inputs::Q4_K,
     looks_at_sums: true,
-    rust: quant::dot_q4k_q8_block,
+    other: quant::dot_q4k_q8_block,
     ours: jambharrow::dot_q4k_q8_block,
 };
 
 const Q6_K: BlockDot = BlockDot {
     layout: inputs::Q6_K,
     looks_at_sums: false,
-    rust: quant::dot_q6k_q8_block,
+    other: quant::dot_q6k_q8_block,
     ours: jambharrow::dot_q6k_q8_block,
 };
 
 const INTEGER_Q4_K: RowDot = RowDot {
     layout: inputs::Q4_K,
-    rust: quant::integer_dot_q4k,
+    other: quant::integer_dot_q4k,
     ours: jambharrow::integer_dot_q4k,
     adds_up_short_rows: true,
+};
+
+const Q5_K: BlockDot = BlockDot {
+    layout: inputs::Q5_K,
+    looks_at_sums: true,
+    other: q5_k::block_dot,
+    ours: jambharrow::dot_q5k_q8_block,
+};
+
+const INTEGER_Q5_K: RowDot = RowDot {
+    layout: inputs::Q5_K,
+    other: q5_k::integer_row_dot,
+    ours: jambharrow::integer_dot_q5k,
+    adds_up_short_rows: false,
 };
 
 /// The readings of a block at most.
@@ -165,12 +192,13 @@ fn of_rust(block: quant::Q8Block) -> Q8Block {
     Q8Block { d, qs, bsums }
 }
 
-/// The dot of a packed block and an activation block, on both sides.
+/// The dot of a packed block and an activation block, on both sides. The other side is the Rust, or
+/// the reference of Q5_K.
 struct BlockDot {
     layout: Layout,
     /// Whether it refuses a block whose sums are not the sums of its 32s.
     looks_at_sums: bool,
-    rust: fn(&[u8], &quant::Q8Block, usize) -> f32,
+    other: fn(&[u8], &quant::Q8Block, usize) -> f32,
     ours: fn(&[u8], &Q8Block, usize) -> Result<f32, Refusal>,
 }
 
@@ -217,7 +245,7 @@ impl BlockDot {
             self.case(&packed[..number as usize], &block, VALUES)
         });
         let what = if self.looks_at_sums {
-            "wrong sums, which the Rust believes: document 01 alone"
+            "wrong sums, which the other side believes: document 01 alone"
         } else {
             "wrong sums, at which no one looks"
         };
@@ -248,15 +276,15 @@ impl BlockDot {
     fn case(&self, w: &[u8], block: &Q8Block, n: usize) -> Compared {
         held::value(
             self.refusal(w.len(), block),
-            || self.rust_answers(w, block, n),
+            || self.other_answers(w, block, n),
             (self.ours)(w, block, n),
             || format!("{} bytes {w:02X?}, {block:?}, n {n}", w.len()),
         )
     }
 
-    fn rust_answers(&self, w: &[u8], block: &Q8Block, n: usize) -> f32 {
+    fn other_answers(&self, w: &[u8], block: &Q8Block, n: usize) -> f32 {
         let &Q8Block { d, qs, bsums } = block;
-        (self.rust)(w, &quant::Q8Block { d, qs, bsums }, n)
+        (self.other)(w, &quant::Q8Block { d, qs, bsums }, n)
     }
 
     /// Blocks of readings and of any quants, at each n, wrong sums, and too few bytes. A payload is
@@ -268,7 +296,7 @@ impl BlockDot {
             let refusal = self.refusal(w.len(), block);
             let value = match refusal {
                 Some(_) => 0.0,
-                None => self.rust_answers(w, block, n),
+                None => self.other_answers(w, block, n),
             };
             let [scale, quants, sums] = stored(block);
             records.push(&[

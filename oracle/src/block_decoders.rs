@@ -2,6 +2,7 @@
 use crate::calls::Call;
 use crate::compare::{Compared, Comparison, Difference};
 use crate::held;
+use crate::q5_k;
 use crate::sample::{count, floats, Records, STOOD};
 use jambharrow::{Refusal, MOST_BYTES};
 use oracle::inputs::{self, any_scale, set_scale, trained_scale, Layout, SCALES};
@@ -38,43 +39,55 @@ pub const DEQUANTIZE_Q6_K: Call = Call {
     sample: |records| Q6_K.sample(records),
 };
 
+pub const DEQUANTIZE_Q5_K: Call = Call {
+    name: "dequantize_q5_k",
+    compare: |comparison| Q5_K.compare(comparison),
+    sample: |records| Q5_K.sample(records),
+};
+
 const Q4_0: Decoder = Decoder {
     layout: inputs::Q4_0,
-    rust: quant::dequantize_q4_0,
+    other: quant::dequantize_q4_0,
     ours: jambharrow::dequantize_q4_0,
 };
 
 const Q5_0: Decoder = Decoder {
     layout: inputs::Q5_0,
-    rust: quant::dequantize_q5_0,
+    other: quant::dequantize_q5_0,
     ours: jambharrow::dequantize_q5_0,
 };
 
 const Q8_0: Decoder = Decoder {
     layout: inputs::Q8_0,
-    rust: quant::dequantize_q8_0,
+    other: quant::dequantize_q8_0,
     ours: jambharrow::dequantize_q8_0,
 };
 
 const Q4_K: Decoder = Decoder {
     layout: inputs::Q4_K,
-    rust: quant::dequantize_q4_k,
+    other: quant::dequantize_q4_k,
     ours: jambharrow::dequantize_q4_k,
 };
 
 const Q6_K: Decoder = Decoder {
     layout: inputs::Q6_K,
-    rust: quant::dequantize_q6_k,
+    other: quant::dequantize_q6_k,
     ours: jambharrow::dequantize_q6_k,
+};
+
+const Q5_K: Decoder = Decoder {
+    layout: inputs::Q5_K,
+    other: q5_k::dequantize,
+    ours: jambharrow::dequantize_q5_k,
 };
 
 /// The values of one run of blocks at most, of those that are compared by thousands.
 const RUN: usize = 4_096;
 
-/// A block decoder, on both sides.
+/// A block decoder, on both sides. The other side is the Rust, or the reference of Q5_K.
 struct Decoder {
     layout: Layout,
-    rust: fn(&[u8]) -> oracle::error::Result<Vec<f32>>,
+    other: fn(&[u8]) -> oracle::error::Result<Vec<f32>>,
     ours: fn(&[u8], &mut [f32]) -> Result<(), Refusal>,
 }
 
@@ -132,7 +145,7 @@ impl Decoder {
         shapes
     }
 
-    /// Holds ours to the Rust, where that answers, and to document 01. The output is a part of a
+    /// Holds ours to the other side, where that answers, and to document 01. The output is a part of a
     /// larger memory, no other place of which may change.
     fn case(&self, bytes: &[u8], room: usize) -> Compared {
         let input = || {
@@ -147,7 +160,7 @@ impl Decoder {
         let refusal = self.refusal(bytes.len(), room);
         held::outcome(refusal, ours, input)?;
         let written = match refusal {
-            None | Some(Refusal::NotWholeBlocks) => self.rust_answers(bytes, refusal, input)?,
+            None | Some(Refusal::NotWholeBlocks) => self.other_answers(bytes, refusal, input)?,
             Some(_) => Vec::new(),
         };
         held::places(at, &written, &before, &memory, input)
@@ -167,22 +180,22 @@ impl Decoder {
         }
     }
 
-    /// The Rust's values, and none where it refuses. It has to refuse where document 01 says that
-    /// it does.
-    fn rust_answers(
+    /// The other side's values, and none where it refuses. It has to refuse where document 01 says
+    /// that the Rust does.
+    fn other_answers(
         &self,
         bytes: &[u8],
         refusal: Option<Refusal>,
         input: impl Fn() -> String,
     ) -> Result<Vec<f32>, Difference> {
-        let rust = (self.rust)(bytes);
-        if rust.is_err() == refusal.is_some() {
-            return Ok(rust.unwrap_or_default());
+        let other = (self.other)(bytes);
+        if other.is_err() == refusal.is_some() {
+            return Ok(other.unwrap_or_default());
         }
         let shown = |refused| if refused { "a refusal" } else { "an answer" };
         Err(Difference {
             input: input(),
-            wanted: shown(rust.is_err()).into(),
+            wanted: shown(other.is_err()).into(),
             ours: shown(refusal.is_some()).into(),
         })
     }
@@ -197,8 +210,8 @@ impl Decoder {
             let refusal = self.refusal(packed.len(), room);
             let mut out = vec![STOOD; room];
             if refusal.is_none() {
-                let rust = (self.rust)(packed).expect("the Rust answers for whole blocks");
-                out[..rust.len()].copy_from_slice(&rust);
+                let other = (self.other)(packed).expect("it answers for whole blocks");
+                out[..other.len()].copy_from_slice(&other);
             }
             records.push(&[
                 &count(room),

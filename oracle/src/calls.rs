@@ -11,13 +11,13 @@ pub struct Call {
     pub name: &'static str,
     /// Compares both sides.
     pub compare: fn(&mut Comparison),
-    /// Stores a sample of the Rust's answers.
+    /// Stores a sample of the answers that ours is to give.
     pub sample: fn(&mut Records),
 }
 
 /// Every call. A call's tag in the stored sample is its place here, so that a new one comes
 /// last.
-pub static CALLS: [Call; 29] = [
+pub static CALLS: [Call; 36] = [
     binary16::F16_TO_F32,
     binary16::F32_TO_F16,
     block_decoders::DEQUANTIZE_Q4_0,
@@ -47,4 +47,11 @@ pub static CALLS: [Call; 29] = [
     linear_layers::LINEAR_Q6_K_CPU,
     linear_layers::LINEAR_Q4_0_CPU,
     stepped_layer::STEPPED,
+    block_decoders::DEQUANTIZE_Q5_K,
+    fused_dots::CANONICAL_DOT_Q5K_FUSED,
+    activation_blocks::DOT_Q5K_Q8_BLOCK,
+    activation_blocks::INTEGER_DOT_Q5K,
+    linear_layers::LINEAR_Q5_K_FUSED,
+    linear_layers::LINEAR_Q5_K_INTEGER,
+    linear_layers::LINEAR_Q5_K_INTEGER_RS,
 ];

@@ -1,5 +1,6 @@
 //! The fused dots.
 use crate::calls::Call;
+use crate::q5_k;
 use crate::row_dots::RowDot;
 use oracle::inputs;
 use oracle::ops::quant;
@@ -16,16 +17,29 @@ pub const Q6K_FUSED_F32_DOT: Call = Call {
     sample: |records| Q6_K.sample(records),
 };
 
+pub const CANONICAL_DOT_Q5K_FUSED: Call = Call {
+    name: "canonical_dot_q5k_fused",
+    compare: |comparison| Q5_K.compare(comparison),
+    sample: |records| Q5_K.sample(records),
+};
+
 const Q4_K: RowDot = RowDot {
     layout: inputs::Q4_K,
-    rust: quant::canonical_dot_q4k_fused,
+    other: quant::canonical_dot_q4k_fused,
     ours: jambharrow::canonical_dot_q4k_fused,
     adds_up_short_rows: true,
 };
 
 const Q6_K: RowDot = RowDot {
     layout: inputs::Q6_K,
-    rust: quant::q6k_fused_f32_dot,
+    other: quant::q6k_fused_f32_dot,
     ours: jambharrow::q6k_fused_f32_dot,
+    adds_up_short_rows: false,
+};
+
+const Q5_K: RowDot = RowDot {
+    layout: inputs::Q5_K,
+    other: q5_k::fused_row_dot,
+    ours: jambharrow::canonical_dot_q5k_fused,
     adds_up_short_rows: false,
 };

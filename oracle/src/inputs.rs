@@ -29,6 +29,11 @@ pub const Q4_K: Layout = Layout {
     values: 256,
     scales: &[0, 2],
 };
+pub const Q5_K: Layout = Layout {
+    bytes: 176,
+    values: 256,
+    scales: &[0, 2],
+};
 pub const Q6_K: Layout = Layout {
     bytes: 210,
     values: 256,

@@ -10,10 +10,10 @@ use oracle::inputs::{row, set_scale, trained_scale, Layout, SCALES};
 use oracle::random::Random;
 use std::panic::{self, AssertUnwindSafe};
 
-/// A layer on both sides.
+/// A layer on both sides. The other side is the Rust, or the reference of Q5_K.
 pub struct Layer {
     pub layout: Layout,
-    pub rust: Linear<RustResult<()>>,
+    pub other: Linear<RustResult<()>>,
     pub kind: Kind,
 }
 
@@ -24,20 +24,20 @@ type Linear<T> = fn(&[f32], &[u8], &mut [f32], usize, usize, usize) -> T;
 type LinearCpu<T> = fn(&[f32], &[u8], &mut [f32], &mut [f32], usize, usize, usize) -> T;
 
 pub enum Kind {
-    /// A layer whose rows are whole blocks; whether the Rust looks how many weights there are
+    /// A layer whose rows are whole blocks; whether the other side looks how many weights there are
     /// before it works.
     WholeBlocks {
         ours: Linear<Result<(), Refusal>>,
-        rust_looks: bool,
+        other_looks: bool,
     },
-    /// A `_cpu` layer, and the Rust's decoder of its weights.
+    /// A `_cpu` layer, and the other side's decoder of its weights.
     Cpu {
         ours: LinearCpu<Result<(), Refusal>>,
         decode: fn(&[u8]) -> RustResult<Vec<f32>>,
     },
 }
 
-/// What the Rust does with what it is asked.
+/// What the other side does with what it is asked.
 #[derive(Debug, Clone, Copy, PartialEq)]
 enum Does {
     Answers,
@@ -53,7 +53,7 @@ impl Layer {
         for (what, asked) in layer_cases::groups(self) {
             let mut decided = Vec::new();
             for asked in asked {
-                match (self.refusal(asked), self.rust_does(asked)) {
+                match (self.refusal(asked), self.other_does(asked)) {
                     (_, Does::Panics) => alone[0].push(asked),
                     (Some(_), Does::Answers | Does::Unasked) => alone[1].push(asked),
                     _ => decided.push(asked),
@@ -66,13 +66,13 @@ impl Layer {
         panic::set_hook(Box::new(|_| {}));
         self.cases(
             comparison,
-            "by document 01 alone, where the Rust panics",
+            "by document 01 alone, where the other side panics",
             &panics,
         );
         panic::set_hook(hook);
         self.cases(
             comparison,
-            "by document 01 alone, where the Rust does not check",
+            "by document 01 alone, where the other side does not check",
             &unchecked,
         );
     }
@@ -180,16 +180,16 @@ impl Layer {
         ]
     }
 
-    /// What the Rust does, by its text and docs/DIFFERENCES.md.
-    fn rust_does(&self, asked: Asked) -> Does {
+    /// What the other side does, by its text and docs/DIFFERENCES.md.
+    fn other_does(&self, asked: Asked) -> Does {
         let Some(refusal) = self.refusal(asked) else {
             return Does::Answers;
         };
         match (&self.kind, refusal) {
             (_, Refusal::TooLarge) => Does::Unasked,
             (Kind::WholeBlocks { .. }, Refusal::NotAMultiple) => Does::Refuses,
-            (Kind::WholeBlocks { rust_looks, .. }, Refusal::WeightsShort(_)) => {
-                match (rust_looks, asked.sizes.batch) {
+            (Kind::WholeBlocks { other_looks, .. }, Refusal::WeightsShort(_)) => {
+                match (other_looks, asked.sizes.batch) {
                     (true, _) => Does::Refuses,
                     (false, 0) => Does::Answers,
                     (false, _) => Does::Panics,
@@ -206,8 +206,8 @@ impl Layer {
         }
     }
 
-    /// Holds ours to the Rust, where that answers, and to document 01, and the Rust to what it is
-    /// said to do. The output and scratch are parts of larger memories, no other place of which may
+    /// Holds ours to the other side, where that answers, and to document 01, and the other side to
+    /// what it is said to do. The output and scratch are parts of larger memories, no other place of which may
     /// change.
     fn case(&self, number: u64, asked: Asked) -> Compared {
         let Asked { sizes, lengths, .. } = asked;
@@ -228,12 +228,12 @@ impl Layer {
         let refusal = self.refusal(asked);
         held::outcome(refusal, ours, || input(""))?;
         let mut outputs = y_before[at..at + lengths.places].to_vec();
-        let does = self.rust_does(asked);
-        let did = self.rust_did(does, &x, &w, &mut outputs, sizes);
+        let does = self.other_does(asked);
+        let did = self.other_did(does, &x, &w, &mut outputs, sizes);
         if did != does {
             return Err(Difference {
                 input: input(""),
-                wanted: format!("that the Rust {does:?}"),
+                wanted: format!("that the other side {does:?}"),
                 ours: format!("it {did:?}"),
             });
         }
@@ -268,14 +268,14 @@ impl Layer {
         }
     }
 
-    /// What the Rust did, and its outputs in `y`. A panic is caught where it is to be one.
-    fn rust_did(&self, does: Does, x: &[f32], w: &[u8], y: &mut [f32], sizes: Sizes) -> Does {
+    /// What the other side did, and its outputs in `y`. A panic is caught where it is to be one.
+    fn other_did(&self, does: Does, x: &[f32], w: &[u8], y: &mut [f32], sizes: Sizes) -> Does {
         let Sizes {
             batch,
             in_feat,
             out_feat,
         } = sizes;
-        let mut said = || match (self.rust)(x, w, y, batch, in_feat, out_feat) {
+        let mut said = || match (self.other)(x, w, y, batch, in_feat, out_feat) {
             Ok(()) => Does::Answers,
             Err(_) => Does::Refuses,
         };
@@ -357,7 +357,7 @@ impl Layer {
             let mut y = vec![STOOD; lengths.places];
             let mut scratch = vec![STOOD; lengths.scratch];
             if refusal.is_none() {
-                self.rust_did(Does::Answers, &x, &w, &mut y, sizes);
+                self.other_did(Does::Answers, &x, &w, &mut y, sizes);
                 let row = self.last_row(&w, sizes);
                 scratch[..row.len()].copy_from_slice(&row);
             }

@@ -1,6 +1,7 @@
 //! The layers.
 use crate::calls::Call;
 use crate::layers::{Kind, Layer};
+use crate::q5_k;
 use oracle::inputs;
 use oracle::ops::quant;
 
@@ -58,63 +59,81 @@ pub const LINEAR_Q4_0_CPU: Call = Call {
     sample: |records| Q4_0_CPU.sample(records),
 };
 
+pub const LINEAR_Q5_K_FUSED: Call = Call {
+    name: "linear_q5_k_fused",
+    compare: |comparison| Q5_K_FUSED.compare(comparison),
+    sample: |records| Q5_K_FUSED.sample(records),
+};
+
+pub const LINEAR_Q5_K_INTEGER: Call = Call {
+    name: "linear_q5_k_integer",
+    compare: |comparison| Q5_K_INTEGER.compare(comparison),
+    sample: |records| Q5_K_INTEGER.sample(records),
+};
+
+pub const LINEAR_Q5_K_INTEGER_RS: Call = Call {
+    name: "linear_q5_k_integer_rs",
+    compare: |comparison| Q5_K_INTEGER_RS.compare(comparison),
+    sample: |records| Q5_K_INTEGER_RS.sample(records),
+};
+
 const Q4_K_FUSED: Layer = Layer {
     layout: inputs::Q4_K,
-    rust: quant::linear_q4_k_fused,
+    other: quant::linear_q4_k_fused,
     kind: Kind::WholeBlocks {
         ours: jambharrow::linear_q4_k_fused,
-        rust_looks: false,
+        other_looks: false,
     },
 };
 
 const Q6_K_FUSED: Layer = Layer {
     layout: inputs::Q6_K,
-    rust: quant::linear_q6_k_fused,
+    other: quant::linear_q6_k_fused,
     kind: Kind::WholeBlocks {
         ours: jambharrow::linear_q6_k_fused,
-        rust_looks: true,
+        other_looks: true,
     },
 };
 
 const Q4_K_INTEGER: Layer = Layer {
     layout: inputs::Q4_K,
-    rust: quant::linear_q4_k_integer,
+    other: quant::linear_q4_k_integer,
     kind: Kind::WholeBlocks {
         ours: jambharrow::linear_q4_k_integer,
-        rust_looks: true,
+        other_looks: true,
     },
 };
 
 const Q6_K_INTEGER: Layer = Layer {
     layout: inputs::Q6_K,
-    rust: quant::linear_q6_k_integer,
+    other: quant::linear_q6_k_integer,
     kind: Kind::WholeBlocks {
         ours: jambharrow::linear_q6_k_integer,
-        rust_looks: true,
+        other_looks: true,
     },
 };
 
 const Q4_K_INTEGER_RS: Layer = Layer {
     layout: inputs::Q4_K,
-    rust: quant::linear_q4_k_integer_rs,
+    other: quant::linear_q4_k_integer_rs,
     kind: Kind::WholeBlocks {
         ours: jambharrow::linear_q4_k_integer_rs,
-        rust_looks: true,
+        other_looks: true,
     },
 };
 
 const Q6_K_INTEGER_RS: Layer = Layer {
     layout: inputs::Q6_K,
-    rust: quant::linear_q6_k_integer_rs,
+    other: quant::linear_q6_k_integer_rs,
     kind: Kind::WholeBlocks {
         ours: jambharrow::linear_q6_k_integer_rs,
-        rust_looks: true,
+        other_looks: true,
     },
 };
 
 const Q4_K_CPU: Layer = Layer {
     layout: inputs::Q4_K,
-    rust: quant::linear_q4_k_cpu,
+    other: quant::linear_q4_k_cpu,
     kind: Kind::Cpu {
         ours: jambharrow::linear_q4_k_cpu,
         decode: quant::dequantize_q4_k,
@@ -123,7 +142,7 @@ const Q4_K_CPU: Layer = Layer {
 
 const Q6_K_CPU: Layer = Layer {
     layout: inputs::Q6_K,
-    rust: quant::linear_q6_k_cpu,
+    other: quant::linear_q6_k_cpu,
     kind: Kind::Cpu {
         ours: jambharrow::linear_q6_k_cpu,
         decode: quant::dequantize_q6_k,
@@ -132,9 +151,36 @@ const Q6_K_CPU: Layer = Layer {
 
 const Q4_0_CPU: Layer = Layer {
     layout: inputs::Q4_0,
-    rust: quant::linear_q4_0_cpu,
+    other: quant::linear_q4_0_cpu,
     kind: Kind::Cpu {
         ours: jambharrow::linear_q4_0_cpu,
         decode: quant::dequantize_q4_0,
+    },
+};
+
+const Q5_K_FUSED: Layer = Layer {
+    layout: inputs::Q5_K,
+    other: q5_k::linear_fused,
+    kind: Kind::WholeBlocks {
+        ours: jambharrow::linear_q5_k_fused,
+        other_looks: true,
+    },
+};
+
+const Q5_K_INTEGER: Layer = Layer {
+    layout: inputs::Q5_K,
+    other: q5_k::linear_integer,
+    kind: Kind::WholeBlocks {
+        ours: jambharrow::linear_q5_k_integer,
+        other_looks: true,
+    },
+};
+
+const Q5_K_INTEGER_RS: Layer = Layer {
+    layout: inputs::Q5_K,
+    other: q5_k::linear_integer_rs,
+    kind: Kind::WholeBlocks {
+        ours: jambharrow::linear_q5_k_integer_rs,
+        other_looks: true,
     },
 };

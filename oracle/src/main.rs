@@ -1,5 +1,6 @@
 //! Holds Jambharrow to the Rust, call by call, and the program `fillin` to the Rust's row dots; stores
-//! a sample of the Rust's answers and the record files of the gate.
+//! a sample of the Rust's answers and the record files of the gate. The Rust has no Q5_K: there the
+//! other side is a reference by the published layout (`q5_k`).
 mod activation_blocks;
 mod binary16;
 mod block_counts;
@@ -18,6 +19,7 @@ mod layers;
 mod linear_layers;
 mod month;
 mod options;
+mod q5_k;
 mod record_cases;
 mod record_damage;
 mod record_files;

@@ -11,12 +11,13 @@ use oracle::random::Random;
 /// A dot of readings and packed bytes over their first n places.
 type Dot<T> = fn(&[f32], &[u8], usize) -> T;
 
-/// A row dot, on both sides.
+/// A row dot, on both sides. The other side is the Rust, or the reference of Q5_K.
 pub struct RowDot {
     pub layout: Layout,
-    pub rust: Dot<RustResult<f32>>,
+    pub other: Dot<RustResult<f32>>,
     pub ours: Dot<Result<f32, Refusal>>,
-    /// Whether the Rust adds up a row of too few weights and says Ok, as docs/DIFFERENCES.md has it.
+    /// Whether the other side adds up a row of too few weights and says Ok, as docs/DIFFERENCES.md
+    /// has it of the Rust.
     pub adds_up_short_rows: bool,
 }
 
@@ -141,8 +142,8 @@ impl RowDot {
         }
     }
 
-    /// Holds ours to the Rust, where that answers, and to document 01; and the Rust to what
-    /// document 01 and docs/DIFFERENCES.md say of it where ours refuses.
+    /// Holds ours to the other side, where that answers, and to document 01; and the other side to
+    /// what document 01 and docs/DIFFERENCES.md say of the Rust where ours refuses.
     fn case(&self, x: &[f32], w: &[u8], n: usize) -> Compared {
         let input = || {
             let first: Vec<u32> = x.iter().take(16).map(|float| float.to_bits()).collect();
@@ -156,22 +157,22 @@ impl RowDot {
         let refusal = self.refusal(x.len(), w.len(), n);
         let refuses = match refusal {
             Some(Refusal::NotWholeBlocks) => Some(true),
-            // With too few readings too, the Rust may look past them, and panics.
+            // With too few readings too, it may look past them, and panics.
             Some(Refusal::WeightsShort(_)) if x.len() >= n => Some(!self.adds_up_short_rows),
             _ => None,
         };
         if let Some(refuses) = refuses {
-            let rust = (self.rust)(x, w, n);
-            if rust.is_err() != refuses {
+            let other = (self.other)(x, w, n);
+            if other.is_err() != refuses {
                 return Err(Difference {
                     input: input(),
-                    wanted: format!("of the Rust a refusal: {refuses}"),
-                    ours: format!("{rust:?}"),
+                    wanted: format!("of the other side a refusal: {refuses}"),
+                    ours: format!("{other:?}"),
                 });
             }
         }
-        let rust = || (self.rust)(x, w, n).expect("the Rust answers where document 01 does");
-        held::value(refusal, rust, (self.ours)(x, w, n), input)
+        let other = || (self.other)(x, w, n).expect("it answers where document 01 does");
+        held::value(refusal, other, (self.ours)(x, w, n), input)
     }
 
     /// Rows of one and two blocks, of every kind, one of a place more than a chunk has, and each
@@ -184,7 +185,7 @@ impl RowDot {
             let refusal = self.refusal(x.len(), w.len(), n);
             let value = match refusal {
                 Some(_) => 0.0,
-                None => (self.rust)(x, w, n).expect("the Rust answers where document 01 does"),
+                None => (self.other)(x, w, n).expect("it answers where document 01 does"),
             };
             records.push(&[
                 &count(n),
