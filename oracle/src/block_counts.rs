@@ -23,12 +23,12 @@ pub fn of_layer(layout: &Layout, in_feat: usize, out_feat: usize) -> usize {
 #[cfg(test)]
 mod tests {
     use super::*;
-    use oracle::inputs::{Q4_K, Q6_K};
+    use oracle::inputs::{Q4_K, Q5_K, Q6_K};
 
     #[test]
     fn a_window_of_4_096_and_weights_packed_for_2_048() {
         let said = |found, needed| Refusal::WeightsShort(Some(Blocks { found, needed }));
-        for (layout, block) in [(Q4_K, 144), (Q6_K, 210)] {
+        for (layout, block) in [(Q4_K, 144), (Q5_K, 176), (Q6_K, 210)] {
             let row = of_row(&layout, 4_096);
             assert_eq!(short(&layout, 8 * block, row), said(8, 16));
             let layer = of_layer(&layout, 4_096, 16);

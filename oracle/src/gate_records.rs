@@ -1,9 +1,8 @@
 //! The record files that the programs of the gate are run on, and what they are to print.
+use crate::formats::FORMATS;
 use crate::record_cases;
 use crate::record_files::{transcript, MOST_IN_FEAT, MOST_OUT_FEAT};
-use crate::record_makers::{
-    example, layer_of, readings, record, warm_up_readings, window, FORMATS,
-};
+use crate::record_makers::{example, layer_of, readings, record, warm_up_readings, window};
 use crate::sample::count;
 use oracle::inputs::{reading, trained_scale};
 use oracle::random::Random;
@@ -51,15 +50,15 @@ fn write_one(project: &Path, name: &str, stdin: &[u8], stdout: &str) -> io::Resu
 /// The windows of the small layer: so many that their numbers have three digits.
 const SMALL_WINDOWS: usize = 180;
 
-/// The largest layer in both formats, each with windows of ordinary readings and with a NaN and
+/// The largest layer in each format, with windows of ordinary readings and with a NaN and
 /// infinities among them, and then many windows of a small layer.
 fn largest() -> Vec<u8> {
     let mut random = Random::new(1);
     let mut file = Vec::new();
-    for format in FORMATS {
+    for format in &FORMATS {
         file.extend(layer_of(
             &mut random,
-            format,
+            format.byte,
             MOST_IN_FEAT,
             MOST_OUT_FEAT,
             trained_scale,

@@ -11,6 +11,7 @@ mod campaign;
 mod compare;
 mod fillin;
 mod fixed_order_sums;
+mod formats;
 mod fused_dots;
 mod gate_records;
 mod held;
@@ -107,15 +108,14 @@ fn month(file: &str, options: &[&str]) -> ExitCode {
         Err(why) => return misused(&why),
     };
     let windows = options.take("--windows", month::WINDOWS);
-    let format = match options.take("--format", 4) {
-        4 => 4,
-        6 => 6,
-        _ => return misused("the formats are 4 and 6"),
+    let format = options.take("--format", 4);
+    let Some(format) = u8::try_from(format).ok().and_then(formats::named) else {
+        return misused("the formats are 4, 5 and 6");
     };
     match options.rest() {
         Ok(()) => ended(
             "the month",
-            month::write(file, format, windows).map(|()| true),
+            month::write(file, format.byte, windows).map(|()| true),
         ),
         Err(why) => misused(&why),
     }

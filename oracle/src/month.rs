@@ -6,6 +6,7 @@ use oracle::error::Error;
 use oracle::inputs::{reading, trained_scale};
 use oracle::ops::quant;
 use oracle::random::Random;
+use std::fmt::Debug;
 use std::fs::{self, File};
 use std::hint::black_box;
 use std::io::{self, BufWriter, Write};
@@ -49,11 +50,18 @@ const ROUNDS: usize = 5;
 /// Readings, packed bytes, the output, batch, in_feat and out_feat.
 type Linear<E> = fn(&[f32], &[u8], &mut [f32], usize, usize, usize) -> Result<(), E>;
 
-/// Both sides of a layer of a format.
-fn sides(format: u8) -> (Linear<Refusal>, Linear<Error>) {
+/// Both sides of a layer of a format; the Rust has no Q5_K.
+fn sides(format: u8) -> (Linear<Refusal>, Option<Linear<Error>>) {
     match format {
-        4 => (jambharrow::linear_q4_k_fused, quant::linear_q4_k_fused),
-        _ => (jambharrow::linear_q6_k_fused, quant::linear_q6_k_fused),
+        4 => (
+            jambharrow::linear_q4_k_fused,
+            Some(quant::linear_q4_k_fused),
+        ),
+        5 => (jambharrow::linear_q5_k_fused, None),
+        _ => (
+            jambharrow::linear_q6_k_fused,
+            Some(quant::linear_q6_k_fused),
+        ),
     }
 }
 
@@ -63,7 +71,8 @@ struct Work<'a> {
     readings: Vec<f32>,
 }
 
-/// Prints how long the row dots of a file take, by ours and by the Rust's. The sides take turns.
+/// Prints how long the row dots of a file take, by ours and, where the Rust has every format of the
+/// file, by the Rust's. The sides take turns.
 pub fn time_dots(name: &str) -> Result<(), String> {
     let file = fs::read(name).map_err(|error| format!("{name}: {error}"))?;
     let work = work_of(&file).map_err(|stop| format!("{name}: {stop}"))?;
@@ -71,11 +80,16 @@ pub fn time_dots(name: &str) -> Result<(), String> {
     let mut ours = Vec::new();
     let mut rust = Vec::new();
     for _ in 0..ROUNDS {
-        ours.push(time(&work, |format| sides(format).0));
-        rust.push(time(&work, |format| sides(format).1));
+        ours.extend(time(&work, |format| Some(sides(format).0)));
+        rust.extend(time(&work, |format| sides(format).1));
     }
     println!("{windows} windows answered; the row dots alone, median of {ROUNDS}:");
-    let (ours, rust) = (median(ours), median(rust));
+    let ours = median(ours);
+    if rust.is_empty() {
+        println!("ours {ours:.3} s; the Rust has no Q5_K");
+        return Ok(());
+    }
+    let rust = median(rust);
     println!(
         "ours {ours:.3} s, the Rust {rust:.3} s, ratio {:.2}",
         ours / rust
@@ -108,11 +122,12 @@ fn windows_of(work: &Work) -> usize {
     work.readings.len() / work.layer.in_feat
 }
 
-/// Seconds that one side takes for all windows, one layer of one window at a time.
-fn time<E: std::fmt::Debug>(work: &[Work], side: impl Fn(u8) -> Linear<E>) -> Duration {
+/// How long one side takes for all windows, one layer of one window at a time, where it has the
+/// formats of all of them.
+fn time<E: Debug>(work: &[Work], side: impl Fn(u8) -> Option<Linear<E>>) -> Option<Duration> {
     let start = Instant::now();
     for Work { layer, readings } in work {
-        let linear = black_box(side(layer.format));
+        let linear = black_box(side(layer.format.byte)?);
         let (in_feat, out_feat) = (layer.in_feat, layer.out_feat);
         let mut outputs = [0.0; MOST_OUT_FEAT];
         for readings in readings.chunks_exact(in_feat) {
@@ -121,7 +136,7 @@ fn time<E: std::fmt::Debug>(work: &[Work], side: impl Fn(u8) -> Linear<E>) -> Du
                 .expect("the reader has checked the sizes");
         }
     }
-    start.elapsed()
+    Some(start.elapsed())
 }
 
 fn median(mut times: Vec<Duration>) -> f64 {

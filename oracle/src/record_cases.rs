@@ -36,6 +36,14 @@ fn small_layer() -> Vec<u8> {
     layer(4, 256, 1, &example_block())
 }
 
+/// A layer of 256 to 1 in Q5_K: the example's block, in which the first 32 weights have their fifth
+/// bits.
+fn small_layer_q5k() -> Vec<u8> {
+    let block = example_block();
+    let block = [&block[..16], &[1; 32], &block[16..]].concat();
+    layer(5, 256, 1, &block)
+}
+
 /// A layer of 256 to 1 in Q6_K, whose weights are all -32 times its scales of 1 and d = 1.
 fn small_layer_q6k() -> Vec<u8> {
     let mut block = [0; 210];
@@ -48,6 +56,9 @@ fn small_layer_q6k() -> Vec<u8> {
 fn longer_layer() -> Vec<u8> {
     layer(4, 512, 2, &example_block().repeat(4))
 }
+
+/// The formats, and the bytes of a block of each.
+const BLOCKS: [(u8, usize); 3] = [(4, 144), (5, 176), (6, 210)];
 
 /// A record whose length field says `length`, whatever stands behind it.
 fn claims(length: usize, rest: &[u8]) -> Vec<u8> {
@@ -73,8 +84,17 @@ fn answered() -> Vec<Case> {
         whole(&[], 0, 0),
         whole(&[&example()], 1, 1),
         whole(&[&layer], 0, 0),
-        whole(&[&layer, &layer, &small_layer_q6k()], 0, 0),
+        whole(
+            &[&layer, &layer, &small_layer_q5k(), &small_layer_q6k()],
+            0,
+            0,
+        ),
         whole(&[&small_layer_q6k(), &ones], 1, 0),
+        whole(
+            &[&small_layer_q5k(), &ones, &window(&[0.0; 256]), &ones],
+            2,
+            1,
+        ),
         whole(
             &[&layer, &ones, &other, &window(&[1.0; 512]), &layer, &ones],
             3,
@@ -154,15 +174,15 @@ fn kinds() -> Vec<Case> {
 /// its sizes are out of range, no multiple, or not those of the weights.
 fn layer_heads() -> Vec<Case> {
     let mut cases = Vec::new();
-    for format in [4, 5, 6] {
+    for format in [4, 5, 6, 7] {
         let payload = [&[format], &count(256)[..], &count(1)].concat();
         for bytes in 0..payload.len() {
             cases.extend(both(11, &record(1, &payload[..bytes])));
         }
-        let number = if format == 5 { 12 } else { 11 };
+        let number = if format == 7 { 12 } else { 11 };
         cases.extend(both(number, &record(1, &payload)));
     }
-    for format in [0, 1, 2, 3, 5, 7, 8, 0x44, 0xFF] {
+    for format in [0, 1, 2, 3, 7, 8, 0x44, 0xFF] {
         cases.extend(both(12, &layer(format, 256, 1, &example_block())));
         cases.extend(both(12, &layer(format, 0, 1, &example_block())));
         cases.extend(both(12, &layer(format, 256, 17, &[])));
@@ -197,7 +217,7 @@ fn layer_sizes() -> Vec<Case> {
     ];
     let block = example_block();
     let mut cases = Vec::new();
-    for format in [4, 6] {
+    for (format, _) in BLOCKS {
         for in_feat in IN_FEATS {
             cases.extend(both(6, &layer(format, in_feat, 1, &block)));
         }
@@ -214,11 +234,16 @@ fn layer_sizes() -> Vec<Case> {
     cases
 }
 
-/// Weights of any other length than the layer's are 11, a block of the other format among them.
+/// Weights of any other length than the layer's are 11, a block of another format among them.
 fn weight_lengths() -> Vec<Case> {
     let mut cases = Vec::new();
-    for (format, block) in [(4, 144), (6, 210)] {
-        for bytes in [0, 1, block - 1, block + 1, 2 * block, 354 - block] {
+    for (format, block) in BLOCKS {
+        let others = BLOCKS.map(|(_, bytes)| bytes);
+        let others = others.into_iter().filter(|&bytes| bytes != block);
+        for bytes in [0, 1, block - 1, block + 1, 2 * block]
+            .into_iter()
+            .chain(others)
+        {
             cases.extend(both(11, &layer(format, 256, 1, &vec![0; bytes])));
         }
         for (in_feat, out_feat) in [(256, 2), (512, 1), (512, 2), (2_048, 16), (256, 16)] {

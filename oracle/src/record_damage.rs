@@ -6,7 +6,7 @@ use oracle::random::Random;
 /// Values of a length field that decide: the ends of its range, and what is no length at all.
 const LENGTHS: [usize; 9] = [0, 1, 2, 3, 32_767, 32_768, 32_769, 0x8000_0002, 0xFFFF_FFFF];
 const KINDS: [u16; 9] = [0, 1, 2, 3, 16, 17, 0x0100, 0x0201, 0xFFFF];
-const FORMATS: [u8; 8] = [0, 1, 4, 5, 6, 7, 0x44, 0xFF];
+const FORMATS: [u8; 9] = [0, 1, 3, 4, 5, 6, 7, 0x44, 0xFF];
 const IN_FEATS: [usize; 12] = [
     0,
     1,
@@ -90,7 +90,7 @@ fn change_a_record(random: &mut Random, records: &mut [Vec<u8>]) {
         0 => set(record, 0, &count(any_of(random, &LENGTHS))),
         1 => {
             let length = (record.len() - 4) as u32;
-            let by = any_of(random, &[1, 2, 4, 144, 210, 256]);
+            let by = any_of(random, &[1, 2, 4, 144, 176, 210, 256]);
             let length = match random.below(2) {
                 0 => length.wrapping_add(by),
                 _ => length.wrapping_sub(by),
@@ -117,7 +117,7 @@ fn change_a_record(random: &mut Random, records: &mut [Vec<u8>]) {
 /// The payload becomes shorter or longer, and the record's length says so.
 fn resize_payload(random: &mut Random, record: &mut Vec<u8>) {
     let payload = record.len() - 6;
-    let by = any_of(random, &[1, 2, 3, 4, 144, 210, 1 + payload / 2]).min(payload);
+    let by = any_of(random, &[1, 2, 3, 4, 144, 176, 210, 1 + payload / 2]).min(payload);
     match random.below(2) {
         0 => record.truncate(record.len() - by),
         _ => record.extend(random.bytes(by)),

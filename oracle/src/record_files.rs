@@ -1,7 +1,6 @@
 //! Record files, read from the text of document 01 alone, and what `fillin` is to print of one. The
-//! windows are answered by the Rust's own row dots.
-use oracle::inputs::{Layout, Q4_K, Q6_K};
-use oracle::ops::quant;
+//! windows are answered by the row dots of the Rust, and of the reference of Q5_K.
+use crate::formats::{self, Format};
 
 /// Document 01's numbers that say no to a record.
 pub const NOT_A_MULTIPLE: u32 = 2;
@@ -24,19 +23,10 @@ pub const LAYER_HEAD: usize = 9;
 /// A layer, whose weights are a part of the file.
 #[derive(Clone, Copy)]
 pub struct Layer<'a> {
-    pub format: u8,
+    pub format: &'static Format,
     pub in_feat: usize,
     pub out_feat: usize,
     pub weights: &'a [u8],
-}
-
-/// The block of a format, 4 or 6.
-pub fn layout(format: u8) -> Option<Layout> {
-    match format {
-        4 => Some(Q4_K),
-        6 => Some(Q6_K),
-        _ => None,
-    }
 }
 
 impl<'a> Layer<'a> {
@@ -46,7 +36,8 @@ impl<'a> Layer<'a> {
             return Err(MALFORMED);
         };
         let [format, i0, i1, i2, i3, o0, o1, o2, o3] = *head;
-        let layout = layout(format).ok_or(UNKNOWN)?;
+        let format = formats::named(format).ok_or(UNKNOWN)?;
+        let layout = &format.layout;
         let in_feat = u32::from_le_bytes([i0, i1, i2, i3]) as usize;
         let out_feat = u32::from_le_bytes([o0, o1, o2, o3]) as usize;
         let within = (1..=MOST_IN_FEAT).contains(&in_feat);
@@ -67,12 +58,9 @@ impl<'a> Layer<'a> {
         })
     }
 
-    /// The Rust's dot of each row of weights and the readings.
+    /// The dot of each row of weights and the readings.
     fn answers(&self, readings: &[f32]) -> Vec<f32> {
-        let dot = match self.format {
-            4 => quant::canonical_dot_q4k_fused,
-            _ => quant::q6k_fused_f32_dot,
-        };
+        let dot = self.format.fused_row_dot;
         self.weights
             .chunks_exact(self.weights.len() / self.out_feat)
             .map(|row| dot(readings, row, self.in_feat).expect("the row has all its weights"))
@@ -197,7 +185,7 @@ impl Transcript {
                 in_feat,
                 out_feat,
                 ..
-            }) => format!("layer {format} {in_feat} {out_feat}\n"),
+            }) => format!("layer {} {in_feat} {out_feat}\n", format.byte),
             Record::Window(layer, readings) => {
                 self.answered += 1;
                 let outputs = layer.answers(&readings).into_iter().map(shown);

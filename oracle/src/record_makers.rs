@@ -1,11 +1,9 @@
 //! Making record files: document 01's example, and files of any layers and windows.
-use crate::record_files::{layout, MOST_IN_FEAT, MOST_OUT_FEAT};
+use crate::formats::{any_format, named};
+use crate::record_files::{MOST_IN_FEAT, MOST_OUT_FEAT};
 use crate::sample::{count, floats};
 use oracle::inputs::{any_float, any_scale, reading, row, set_scale, trained_scale, Draw, SCALES};
 use oracle::random::Random;
-
-/// The formats of a layer record.
-pub const FORMATS: [u8; 2] = [4, 6];
 
 /// A record of a kind and a payload, with the length that it has.
 pub fn record(kind: u16, payload: &[u8]) -> Vec<u8> {
@@ -58,7 +56,7 @@ pub fn layer_of(
     out_feat: usize,
     scale: Draw<u16>,
 ) -> Vec<u8> {
-    let layout = layout(format).expect("4 and 6 are the formats");
+    let layout = &named(format).expect("the byte of a format").layout;
     let weights = layout.blocks(random, out_feat * in_feat / layout.values, scale);
     layer(format, in_feat, out_feat, &weights)
 }
@@ -120,7 +118,7 @@ fn any_sizes(random: &mut Random) -> (usize, usize) {
 pub fn any_file(random: &mut Random) -> Vec<Vec<u8>> {
     let mut records = Vec::new();
     for _ in 0..=random.below(3) {
-        let format = FORMATS[random.below(2)];
+        let format = any_format(random);
         let (in_feat, out_feat) = any_sizes(random);
         records.push(any_layer(random, format, in_feat, out_feat));
         for _ in 0..random.below(5) {

@@ -1,7 +1,9 @@
 //! The stepped layer, by histories: calls of every kind, one after another on the same memory, each
-//! held to document 01, and each closed row to the Rust's dot of it in one go.
+//! held to document 01, and each closed row to its dot in one go: the Rust's, or that of the
+//! reference of Q5_K.
 use crate::calls::Call;
 use crate::compare::{Compared, Comparison, Difference};
+use crate::formats::any_format;
 use crate::held::{self, same, Place};
 use crate::sample::{count, floats, Records};
 use crate::stepped_model::{chunks, layout, needs, refusal, Input, Lengths, SteppedCall, Work};
@@ -44,17 +46,19 @@ fn compare(comparison: &mut Comparison) {
 }
 
 /// The layers whose histories are stored: format, in_feat and out_feat.
-const STORED: [(u8, usize, usize); 5] = [
+const STORED: [(u8, usize, usize); 7] = [
     (Layer::Q4_K, 8_448, 2),
     (Layer::Q6_K, 8_448, 2),
     (Layer::Q4_K, 256, 3),
     (Layer::Q6_K, 512, 4),
     (Layer::Q4_K, 0, 2),
+    (Layer::Q5_K, 8_448, 2),
+    (Layer::Q5_K, 512, 4),
 ];
 
 /// A payload is the format, in_feat, out_feat, how many packed bytes and pieces there are, the
 /// readings, the bytes, the row and the chunk of each piece in the order of the calls, and the dot
-/// of each row, which is the Rust's in one go. Every other piece is named, the last one first; runs
+/// of each row, which is the other side's in one go. Every other piece is named, the last one first; runs
 /// do the rest.
 fn sample(records: &mut Records) {
     for (number, (format, in_feat, out_feat)) in (0..).zip(STORED) {
@@ -124,7 +128,7 @@ fn play(random: &mut Random, others: bool) -> Compared {
 /// A call that has each reason of a set to refuse, so that the first of them is seen to win.
 fn refuse(random: &mut Random, number: u64) -> Compared {
     let layer = Layer {
-        format: [Layer::Q4_K, Layer::Q6_K][random.below(2)],
+        format: any_format(random),
         in_feat: [256, 8_448][random.below(2)],
         out_feat: 1 + random.below(3),
     };
@@ -152,7 +156,7 @@ fn any_layer(random: &mut Random) -> Layer {
         _ => IN_FEATS[random.below(IN_FEATS.len())],
     };
     Layer {
-        format: [Layer::Q4_K, Layer::Q6_K][random.below(2)],
+        format: any_format(random),
         in_feat,
         out_feat: random.below(ROWS + 1),
     }
@@ -162,7 +166,7 @@ fn any_layer(random: &mut Random) -> Layer {
 fn other_layer(random: &mut Random, layer: Layer) -> Layer {
     let in_feats = [layer.in_feat, layer.in_feat, 0, 256, 8_448];
     Layer {
-        format: [Layer::Q4_K, Layer::Q6_K][random.below(2)],
+        format: any_format(random),
         in_feat: in_feats[random.below(in_feats.len())],
         out_feat: random.below(layer.out_feat + 2),
     }
@@ -335,7 +339,7 @@ impl Reasons {
     /// An unknown format, or a size out of range.
     fn layer(self, random: &mut Random, mut layer: Layer) -> Layer {
         if self.has(0) {
-            layer.format = [0, 1, 3, 5, 7, 8, 132, 255][random.below(8)];
+            layer.format = [0, 1, 2, 3, 7, 8, 132, 255][random.below(8)];
         }
         if self.has(1) {
             layer.in_feat += 1 + random.below(255);

@@ -1,8 +1,9 @@
 //! What document 01 says of the stepped layer's calls, in plain code: whether a call refuses, what
 //! it answers, and every place that it writes. The sums and the tree are the Rust's.
 use crate::block_counts::{of_layer, short};
+use crate::formats::{self, Format};
 use jambharrow::{Layer, Progress, Refusal, MOST_IN, MOST_OUT};
-use oracle::inputs::{self, Layout};
+use oracle::inputs::Layout;
 use oracle::ops::quant::{self, CANON_CHUNK};
 use std::collections::HashMap;
 
@@ -35,12 +36,14 @@ pub struct Work {
     pub outputs: Vec<(usize, f32)>,
 }
 
+/// A known format.
+fn known(byte: u8) -> &'static Format {
+    formats::named(byte).expect("a layer of a known format")
+}
+
 /// The layout of a known format.
-pub fn layout(format: u8) -> Layout {
-    match format {
-        Layer::Q4_K => inputs::Q4_K,
-        _ => inputs::Q6_K,
-    }
+pub fn layout(format: u8) -> &'static Layout {
+    &known(format).layout
 }
 
 /// The chunks of a row.
@@ -50,7 +53,7 @@ pub fn chunks(layer: Layer) -> usize {
 
 /// The bytes of a row.
 pub fn row_bytes(layer: Layer) -> usize {
-    let Layout { bytes, values, .. } = layout(layer.format);
+    let Layout { bytes, values, .. } = *layout(layer.format);
     layer.in_feat / values * bytes
 }
 
@@ -68,8 +71,7 @@ pub fn needs(layer: Layer) -> Lengths {
 
 /// Why document 01 says no to a call.
 pub fn refusal(layer: Layer, call: SteppedCall, lent: Lengths, marks: &[u8]) -> Option<Refusal> {
-    let known = [Layer::Q4_K, Layer::Q6_K].contains(&layer.format);
-    if !known {
+    if formats::named(layer.format).is_none() {
         return Some(Refusal::Unknown);
     }
     if layer.in_feat > MOST_IN || layer.out_feat > MOST_OUT {
@@ -82,8 +84,8 @@ pub fn refusal(layer: Layer, call: SteppedCall, lent: Lengths, marks: &[u8]) -> 
     let works = matches!(call, SteppedCall::Piece { .. } | SteppedCall::Run { .. });
     if works && lent.weights < needs.weights {
         let layout = layout(layer.format);
-        let blocks = of_layer(&layout, layer.in_feat, layer.out_feat);
-        return Some(short(&layout, lent.weights, blocks));
+        let blocks = of_layer(layout, layer.in_feat, layer.out_feat);
+        return Some(short(layout, lent.weights, blocks));
     }
     if works && lent.readings < needs.readings {
         return Some(Refusal::ReadingsShort);
@@ -143,17 +145,13 @@ impl<'a> Input<'a> {
         &self.w[row * bytes..][..bytes]
     }
 
-    /// A row's weights, as the Rust decodes them.
+    /// A row's weights, as the other side decodes them.
     fn decoded(&mut self, layer: Layer, row: usize) -> &[f32] {
         let packed = self.packed(layer, row);
         let key = (layer.format, layer.in_feat, row);
-        self.decoded.entry(key).or_insert_with(|| {
-            let decode = match layer.format {
-                Layer::Q4_K => quant::dequantize_q4_k,
-                _ => quant::dequantize_q6_k,
-            };
-            decode(packed).expect("a row is whole blocks")
-        })
+        let decode = known(layer.format).decode;
+        let row = self.decoded.entry(key);
+        row.or_insert_with(|| decode(packed).expect("a row is whole blocks"))
     }
 
     /// The sum of one chunk of one row.
@@ -164,14 +162,11 @@ impl<'a> Input<'a> {
         quant::canonical_chunk(x, &self.decoded(layer, row)[from..to])
     }
 
-    /// A row's dot in one go, as the Rust has it: over the decoded row, and fused.
+    /// A row's dot in one go, as the other side has it: over the decoded row, and fused.
     pub fn in_one_go(&mut self, layer: Layer, row: usize) -> [f32; 2] {
         let n = layer.in_feat;
         let x = &self.x[..n];
-        let fused = match layer.format {
-            Layer::Q4_K => quant::canonical_dot_q4k_fused,
-            _ => quant::q6k_fused_f32_dot,
-        };
+        let fused = known(layer.format).fused_row_dot;
         let fused = fused(x, self.packed(layer, row), n).expect("a row is whole blocks");
         let decoded = self.decoded(layer, row);
         [quant::canonical_dot_pub(x, decoded, n), fused]
