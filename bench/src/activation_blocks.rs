@@ -2,9 +2,10 @@
 use crate::calls::Call;
 use crate::fixed_order_sums::readings;
 use crate::measure::{Beside, Row, Size};
+use crate::q5_k;
 use crate::row_dots;
 use jambharrow::{Q8Block, Refusal};
-use oracle::inputs::{trained_scale, Layout, Q4_K, Q6_K};
+use oracle::inputs::{trained_scale, Layout, Q4_K, Q5_K, Q6_K};
 use oracle::ops::quant;
 use oracle::random::Random;
 use std::hint::black_box;
@@ -19,9 +20,21 @@ pub const DOT_Q4K_Q8_BLOCK: Call = Call {
     rows: || {
         rows_of_dot(
             &Q4_K,
-            1.1,
+            Some(1.1),
             jambharrow::dot_q4k_q8_block,
             quant::dot_q4k_q8_block,
+        )
+    },
+};
+
+pub const DOT_Q5K_Q8_BLOCK: Call = Call {
+    name: "dot_q5k_q8_block",
+    rows: || {
+        rows_of_dot(
+            &Q5_K,
+            None,
+            jambharrow::dot_q5k_q8_block,
+            q5_k::dot_q5k_q8_block,
         )
     },
 };
@@ -31,7 +44,7 @@ pub const DOT_Q6K_Q8_BLOCK: Call = Call {
     rows: || {
         rows_of_dot(
             &Q6_K,
-            0.6,
+            Some(0.6),
             jambharrow::dot_q6k_q8_block,
             quant::dot_q6k_q8_block,
         )
@@ -49,6 +62,22 @@ pub const INTEGER_DOT_Q4K: Call = Call {
                 bar,
                 jambharrow::integer_dot_q4k,
                 quant::integer_dot_q4k,
+            )
+        };
+        row_dots::ROWS.map(row).into()
+    },
+};
+
+pub const INTEGER_DOT_Q5K: Call = Call {
+    name: "integer_dot_q5k",
+    rows: || {
+        let row = |length| {
+            row_dots::row(
+                &Q5_K,
+                length,
+                None,
+                jambharrow::integer_dot_q5k,
+                q5_k::integer_dot_q5k,
             )
         };
         row_dots::ROWS.map(row).into()
@@ -85,7 +114,7 @@ fn row_of_quantize((size, len): (Size, usize), bar: f64) -> Row {
 /// A block dot over parts of a block, and over all of it.
 fn rows_of_dot(
     layout: &Layout,
-    bar: f64,
+    bar: Option<f64>,
     ours: impl Fn(&[u8], &Q8Block, usize) -> Result<f32, Refusal> + Copy + 'static,
     rust: fn(&[u8], &quant::Q8Block, usize) -> f32,
 ) -> Vec<Row> {
@@ -101,7 +130,7 @@ fn rows_of_dot(
             size,
             values: n,
             calls: 1,
-            bar: (size == Size::Device).then_some(bar),
+            bar: bar.filter(|_| size == Size::Device),
             vector: None,
             ours: Box::new(move || {
                 black_box(ours(black_box(&ours_w), black_box(&ours_block), n))

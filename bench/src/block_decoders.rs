@@ -1,6 +1,7 @@
 //! The block decoders, over the blocks of one K block's values, of a row of the logger, and of many.
 use crate::calls::Call;
 use crate::measure::{Beside, Row, Size};
+use crate::q5_k;
 use jambharrow::Refusal;
 use oracle::inputs::{self, any_scale, trained_scale, Draw, Layout};
 use oracle::ops::quant;
@@ -51,6 +52,18 @@ pub const DEQUANTIZE_Q4_K: Call = Call {
             0.7,
             jambharrow::dequantize_q4_k,
             quant::dequantize_q4_k,
+        )
+    },
+};
+
+pub const DEQUANTIZE_Q5_K: Call = Call {
+    name: "dequantize_q5_k",
+    rows: || {
+        rows(
+            &inputs::Q5_K,
+            0.8,
+            jambharrow::dequantize_q5_k,
+            q5_k::dequantize_q5_k,
         )
     },
 };

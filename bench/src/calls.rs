@@ -13,13 +13,14 @@ pub struct Call {
 }
 
 /// Every public call, in the order of the table, and last the stepped layer as a whole.
-pub static CALLS: [Call; 33] = [
+pub static CALLS: [Call; 40] = [
     binary16::F16_TO_F32,
     binary16::F32_TO_F16,
     block_decoders::DEQUANTIZE_Q4_0,
     block_decoders::DEQUANTIZE_Q5_0,
     block_decoders::DEQUANTIZE_Q8_0,
     block_decoders::DEQUANTIZE_Q4_K,
+    block_decoders::DEQUANTIZE_Q5_K,
     block_decoders::DEQUANTIZE_Q6_K,
     block_quantizers::QUANTIZE_Q4_0,
     block_quantizers::QUANTIZE_Q8_0,
@@ -29,15 +30,21 @@ pub static CALLS: [Call; 33] = [
     fixed_order_sums::CANONICAL_SUM_PUB,
     activation_blocks::QUANTIZE_BLOCK_Q8,
     activation_blocks::DOT_Q4K_Q8_BLOCK,
+    activation_blocks::DOT_Q5K_Q8_BLOCK,
     activation_blocks::DOT_Q6K_Q8_BLOCK,
     activation_blocks::INTEGER_DOT_Q4K,
+    activation_blocks::INTEGER_DOT_Q5K,
     fused_dots::CANONICAL_DOT_Q4K_FUSED,
+    fused_dots::CANONICAL_DOT_Q5K_FUSED,
     fused_dots::Q6K_FUSED_F32_DOT,
     linear_layers::LINEAR_Q4_K_FUSED,
+    linear_layers::LINEAR_Q5_K_FUSED,
     linear_layers::LINEAR_Q6_K_FUSED,
     linear_layers::LINEAR_Q4_K_INTEGER,
+    linear_layers::LINEAR_Q5_K_INTEGER,
     linear_layers::LINEAR_Q6_K_INTEGER,
     linear_layers::LINEAR_Q4_K_INTEGER_RS,
+    linear_layers::LINEAR_Q5_K_INTEGER_RS,
     linear_layers::LINEAR_Q6_K_INTEGER_RS,
     linear_layers::LINEAR_Q4_K_CPU,
     linear_layers::LINEAR_Q6_K_CPU,

@@ -1,7 +1,9 @@
 //! The fused dots, over rows of readings and packed weights.
 use crate::calls::Call;
+use crate::measure::Size;
+use crate::q5_k;
 use crate::row_dots::{row, ROWS};
-use oracle::inputs::{Q4_K, Q6_K};
+use oracle::inputs::{Q4_K, Q5_K, Q6_K};
 use oracle::ops::quant;
 
 pub const CANONICAL_DOT_Q4K_FUSED: Call = Call {
@@ -14,6 +16,22 @@ pub const CANONICAL_DOT_Q4K_FUSED: Call = Call {
                 None,
                 jambharrow::canonical_dot_q4k_fused,
                 quant::canonical_dot_q4k_fused,
+            )
+        };
+        ROWS.map(row).into()
+    },
+};
+
+pub const CANONICAL_DOT_Q5K_FUSED: Call = Call {
+    name: "canonical_dot_q5k_fused",
+    rows: || {
+        let row = |length: (Size, usize)| {
+            row(
+                &Q5_K,
+                length,
+                (length.0 != Size::Small).then_some(0.85),
+                jambharrow::canonical_dot_q5k_fused,
+                q5_k::canonical_dot_q5k_fused,
             )
         };
         ROWS.map(row).into()

@@ -1,9 +1,10 @@
 //! The layers, over one row of readings.
 use crate::calls::Call;
 use crate::measure::{Beside, Row, Size};
+use crate::q5_k;
 use jambharrow::Refusal;
 use oracle::error::Result as RustResult;
-use oracle::inputs::{reading, trained_scale, Layout, Q4_0, Q4_K, Q6_K};
+use oracle::inputs::{reading, trained_scale, Layout, Q4_0, Q4_K, Q5_K, Q6_K};
 use oracle::ops::quant;
 use oracle::random::Random;
 use std::hint::black_box;
@@ -13,6 +14,14 @@ pub const LINEAR_Q4_K_FUSED: Call = Call {
     rows: || {
         let rust = quant::linear_q4_k_fused;
         rows(&Q4_K, 0.8, jambharrow::linear_q4_k_fused, rust)
+    },
+};
+
+pub const LINEAR_Q5_K_FUSED: Call = Call {
+    name: "linear_q5_k_fused",
+    rows: || {
+        let rust = q5_k::linear_q5_k_fused;
+        rows(&Q5_K, 0.85, jambharrow::linear_q5_k_fused, rust)
     },
 };
 
@@ -32,6 +41,14 @@ pub const LINEAR_Q4_K_INTEGER: Call = Call {
     },
 };
 
+pub const LINEAR_Q5_K_INTEGER: Call = Call {
+    name: "linear_q5_k_integer",
+    rows: || {
+        let rust = q5_k::linear_q5_k_integer;
+        rows(&Q5_K, 0.8, jambharrow::linear_q5_k_integer, rust)
+    },
+};
+
 pub const LINEAR_Q6_K_INTEGER: Call = Call {
     name: "linear_q6_k_integer",
     rows: || {
@@ -45,6 +62,14 @@ pub const LINEAR_Q4_K_INTEGER_RS: Call = Call {
     rows: || {
         let rust = quant::linear_q4_k_integer_rs;
         rows(&Q4_K, 0.8, jambharrow::linear_q4_k_integer_rs, rust)
+    },
+};
+
+pub const LINEAR_Q5_K_INTEGER_RS: Call = Call {
+    name: "linear_q5_k_integer_rs",
+    rows: || {
+        let rust = q5_k::linear_q5_k_integer_rs;
+        rows(&Q5_K, 0.8, jambharrow::linear_q5_k_integer_rs, rust)
     },
 };
 

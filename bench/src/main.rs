@@ -12,6 +12,7 @@ mod linear_layers;
 mod measure;
 mod measured;
 mod page;
+mod q5_k;
 mod ratios;
 mod row_dots;
 mod stepped_calls;

@@ -26,7 +26,7 @@ pub enum Size {
 
 /// What stands beside ours.
 pub enum Beside {
-    /// The Rust.
+    /// The Rust, or what stands for it where it has no Q5_K.
     Rust(Turn),
     /// Our own layer in one go.
     OneGo(Turn),

@@ -1,6 +1,7 @@
 //! A layer that is worked by pieces, and all that its calls are lent.
 use crate::fixed_order_sums::readings;
 use crate::measure::Size;
+use crate::q5_k;
 use jambharrow::{Layer, Refusal};
 use oracle::error::Result as RustResult;
 use oracle::inputs::{self, trained_scale, Layout};
@@ -34,7 +35,7 @@ pub struct Format {
     byte: u8,
 }
 
-pub const FORMATS: [Format; 2] = [
+pub const FORMATS: [Format; 3] = [
     Format {
         name: "Q4_K",
         layout: inputs::Q4_K,
@@ -42,6 +43,14 @@ pub const FORMATS: [Format; 2] = [
         rust_one_go: quant::linear_q4_k_fused,
         rust_row_dot: quant::canonical_dot_q4k_fused,
         byte: Layer::Q4_K,
+    },
+    Format {
+        name: "Q5_K",
+        layout: inputs::Q5_K,
+        one_go: jambharrow::linear_q5_k_fused,
+        rust_one_go: q5_k::linear_q5_k_fused,
+        rust_row_dot: q5_k::canonical_dot_q5k_fused,
+        byte: Layer::Q5_K,
     },
     Format {
         name: "Q6_K",
