@@ -25,13 +25,8 @@ pub fn write() -> io::Result<()> {
     fs::create_dir_all(&examples)?;
     fs::write(examples.join("example.records"), &example)?;
     println!("examples/example.records: {} bytes", example.len());
-    let largest = largest();
-    for (name, file) in [
-        ("fillin", &example),
-        ("fillin_empty", &Vec::new()),
-        ("fillin_largest", &largest),
-    ] {
-        write_one(&project, name, file, &transcript(file).text)?;
+    for (name, file) in [("fillin", example), ("fillin_largest", largest())] {
+        write_one(&project, name, &file, &transcript(&file).text)?;
     }
     let (container, text) = cases();
     write_one(&project, "fillin_cases", &container, &text)
