@@ -304,10 +304,10 @@ mod tests {
     fn dots_are_the_same() {
         let (x, w) = input();
         for n in [1, 31, 100, 256, 257, 8_192, 8_193] {
-            let fused = canonical_dot_q5k_fused(&x, &w, n);
-            assert_eq!(fused.ok(), ours::canonical_dot_q5k_fused(&x, &w, n).ok());
-            let integer = integer_dot_q5k(&x, &w, n);
-            assert_eq!(integer.ok(), ours::integer_dot_q5k(&x, &w, n).ok());
+            let fused = canonical_dot_q5k_fused(&x, &w, n).expect("whole blocks");
+            assert_eq!(Ok(fused), ours::canonical_dot_q5k_fused(&x, &w, n));
+            let integer = integer_dot_q5k(&x, &w, n).expect("whole blocks");
+            assert_eq!(Ok(integer), ours::integer_dot_q5k(&x, &w, n));
             let Q8Block { d, qs, bsums } = quantize_block_q8(&x[..256]);
             let block = dot_q5k_q8_block(&w, &Q8Block { d, qs, bsums }, n);
             let our_block = ours::Q8Block { d, qs, bsums };
