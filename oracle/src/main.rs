@@ -40,8 +40,9 @@ use std::fmt::Display;
 use std::process::ExitCode;
 
 const USAGE: &str = "\
-oracle compare [CALL..]   compares ours with the Rust, on the calls named or on all; `stepped`
-                          names those of the stepped layer; status 1 where an answer differs
+oracle compare [CALL..]   compares ours with the Rust, and in Q5_K with the reference, on the calls
+                          named or on all; `stepped` names those of the stepped layer; status 1
+                          where an answer differs
 oracle campaign [--minutes M] [--seed S]
                           compares every call on other inputs in each round, for so many minutes
                           (60, seed 1): counts to a call and to a refusal number; keeps the cases
