@@ -67,6 +67,7 @@ fn claims(length: usize, rest: &[u8]) -> Vec<u8> {
 
 pub fn all() -> Vec<Case> {
     let mut cases = answered();
+    cases.extend(near_warm_up());
     cases.extend(lengths());
     cases.extend(kinds());
     cases.extend(layer_heads());
@@ -76,11 +77,11 @@ pub fn all() -> Vec<Case> {
     cases
 }
 
-/// Files that are read to their end, among them windows that only look like warm-up windows.
+/// Files that are read to their end: none, one and several layers, and windows behind each format.
 fn answered() -> Vec<Case> {
     let (layer, ones) = (small_layer(), window(&[1.0; 256]));
     let other = longer_layer();
-    let mut cases = vec![
+    vec![
         whole(&[], 0, 0),
         whole(&[&example()], 1, 1),
         whole(&[&layer], 0, 0),
@@ -101,7 +102,12 @@ fn answered() -> Vec<Case> {
             0,
         ),
         whole(&[&other, &window(&[0.0; 512]), &layer, &ones], 1, 1),
-    ];
+    ]
+}
+
+/// Windows that only look like warm-up windows, and windows with one warm-up reading.
+fn near_warm_up() -> Vec<Case> {
+    let (layer, ones) = (small_layer(), window(&[1.0; 256]));
     let bits = [
         0x8000_0000,
         0x0000_0001,
@@ -111,10 +117,9 @@ fn answered() -> Vec<Case> {
         0x7FC0_0000,
         0xFFFF_FFFF,
     ];
-    cases.extend(bits.map(|bits| {
-        let readings = [f32::from_bits(bits); 256];
-        whole(&[&layer, &window(&readings)], 1, 0)
-    }));
+    let of_bits = |bits| window(&[f32::from_bits(bits); 256]);
+    let whole_of = |bits| whole(&[&layer, &of_bits(bits)], 1, 0);
+    let mut cases: Vec<Case> = bits.map(whole_of).into();
     // Six bytes of zero, of which no four are one reading.
     let mut readings = [1.0; 256];
     readings[8..10].copy_from_slice(&[0x0000_0001, 0x0100_0000].map(f32::from_bits));
