@@ -9,7 +9,7 @@ mod container;
 use container::answer_container;
 
 // Room for the container.
-const MOST_INPUT: usize = 300_000;
+const MOST_INPUT: usize = 400_000;
 
 fn main() {
     let mut input = [0u8; MOST_INPUT];
