@@ -172,7 +172,8 @@ uint32_t jambharrow_dequantize_q4_k(const uint8_t *bytes, jambharrow_size bytes_
 
 /* Q5_K: a block is 176 bytes, d, dmin, scales and minimums as in Q4_K, 32 bytes of fifth bits and
  * 128 bytes of nibbles as in Q4_K, and has 256 values, (d * scale) * q - (dmin * minimum). q is the
- * nibble and 16 times its fifth bit, which for place l of sub-block j is bit j of byte l. */
+ * nibble plus 16 times its fifth bit, which for place l of the 32 values of scale j is bit j of
+ * byte l. */
 uint32_t jambharrow_dequantize_q5_k(const uint8_t *bytes, jambharrow_size bytes_len,
                                     float *out, jambharrow_size out_len);
 
@@ -257,7 +258,7 @@ uint32_t jambharrow_dot_q4k_q8_block(const uint8_t *w, jambharrow_size w_len,
                                      jambharrow_size n, float *value, jambharrow_size blocks[2]);
 
 /* The dot of the Q5_K block at the front of w and an activation block: the same with q, the nibble
- * and its fifth bit, in the place of the nibble. It refuses in the same order, with
+ * plus 16 times its fifth bit, in the place of the nibble. It refuses in the same order, with
  *   JAMBHARROW_WEIGHTS_SHORT   fewer than 176 bytes;
  *   JAMBHARROW_WRONG_SUMS      sums that are not the sums of the block's 32s.
  * It needs at most 2,048 bytes of stack. */
