@@ -282,8 +282,8 @@ uint32_t jambharrow_dot_q6k_q8_block(const uint8_t *w, jambharrow_size w_len,
  * then n = 0 is answered with +0.0; then it refuses, in this order, with
  *   JAMBHARROW_WEIGHTS_SHORT      blocks of fewer than n weights;
  *   JAMBHARROW_READINGS_SHORT     fewer than n readings.
- * Readings and whole blocks behind the first n places are not looked at. Each needs at most 4,096
- * bytes of stack. */
+ * Readings and whole blocks behind the first n places are not looked at. The dots in whole numbers
+ * need at most 5,120 bytes of stack, the fused ones 4,096. */
 
 /* Q4_K, in whole numbers: each 256 readings are made an activation block, the last of fewer where n
  * ends inside it, and the dots of the blocks, as jambharrow_dot_q4k_q8_block has them, meet in the
