@@ -27,7 +27,8 @@ fn judge_f32_to_f16(payload: &[u8]) -> Finding {
     }
     let bits = numbers::le_u32(payload[0], payload[1], payload[2], payload[3]);
     let answer = numbers::le_u16(payload[4], payload[5]);
+    let fared = payload[6] as u32;
     let made = halves::f32_to_f16(bits);
     let how = made.how;
-    Finding::of_same(made.bits == answer && number_of_how(how) == payload[6] as u32)
+    Finding::of_same(made.bits == answer && number_of_how(how) == fared)
 }

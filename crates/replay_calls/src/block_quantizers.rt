@@ -50,6 +50,14 @@ fn judge_output(
     Finding::of_same(same_bytes(left, out))
 }
 
+// Two counts.
+fn read_lost(counts: &[u8]) -> Lost {
+    Lost {
+        flushed: u32_at(counts, 0) as usize,
+        infinite: u32_at(counts, 4) as usize,
+    }
+}
+
 fn judge_quantize(target: Target, payload: &[u8]) -> Finding {
     let room = u32_at(payload, 0) as usize;
     let count = u32_at(payload, 4) as usize;
@@ -65,10 +73,7 @@ fn judge_quantize(target: Target, payload: &[u8]) -> Finding {
         return Finding::Malformed;
     }
     let number = u32_at(payload, end);
-    let lost = Lost {
-        flushed: u32_at(payload, end + 4) as usize,
-        infinite: u32_at(payload, end + 8) as usize,
-    };
+    let lost = read_lost(&payload[end + 4..left]);
     let mut data = [0.0f32; READINGS];
     let mut out = [STOOD; ROOM];
     judge_output(
