@@ -38,8 +38,8 @@
  * What scales lost. A call that picks the scales of its blocks and stores them in binary16 has
  * `lost` as its last parameter. lost[0] is how many scales were flushed to zero: those blocks
  * decode to zeros. lost[1] is how many were sent to infinity: those blocks decode to infinities and
- * NaN. Both are written where JAMBHARROW_DONE is returned, and nowhere else; a block whose scale
- * was lost is no refusal, and has the bytes that quant.rs gives it.
+ * NaN. Both are written where JAMBHARROW_DONE is returned, and nowhere else: a lost scale is no
+ * refusal, and its block has the bytes that quant.rs gives it.
  *
  * NaN. Every other result has the bits that its contract says. Where a result is a NaN, the bits
  * may be those of any NaN.
