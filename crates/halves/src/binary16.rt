@@ -75,6 +75,6 @@ pub fn f32_to_f16(bits: u32) -> Narrowed
     let half = sign * 0x8000 + narrowed_magnitude(exp, mant);
     Narrowed {
         bits: half,
-        how: how_narrowed(bits % 0x8000_0000),
+        how: how_narrowed(bits),
     }
 }

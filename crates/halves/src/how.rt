@@ -1,6 +1,5 @@
 // Which of four the narrowing of a binary32 to a binary16 was.
 ghost use mathlib.Core.Path.{_≡_};
-ghost use Prim.Native.Nat.{_<_, _%_, _^_};
 ghost use Rattle.halves.specs.How.{howNarrowed};
 
 // How a number fared when it was narrowed.
@@ -21,25 +20,27 @@ pub struct Narrowed {
     pub how: How,
 }
 
-// How a number fares whose bits, the sign aside, are `magnitude`. The halves' numbers are from 2^-14, at 3880_0000, to
-// below 2^16, at 4780_0000, and have ten digits behind the leading one, where a binary32 has thirteen more.
-pub(crate) fn how_narrowed(magnitude: u32) -> How
-    requires { ⌜ magnitude < 2 ^ 31 ⌝ }
-    ensures { λ r. ⌜ r ≡ howNarrowed magnitude ⌝ }
+// How the number with these bits fares. The halves' numbers are from 2^-14, whose exponent's field is 113, to below 2^16,
+// at 143, and have ten digits behind the leading one, where a binary32 has thirteen more. A field of 255 is an infinity
+// or a NaN.
+pub(crate) fn how_narrowed(bits: u32) -> How
+    ensures { λ r. ⌜ r ≡ howNarrowed bits ⌝ }
 {
-    if magnitude == 0 {
-        return How::Exact;
-    }
-    if magnitude < 0x3880_0000 {
+    let exp = bits / 0x80_0000 % 256;
+    let magnitude = bits % 0x8000_0000;
+    if exp <= 112 {
+        if magnitude == 0 {
+            return How::Exact;
+        }
         return How::Flushed;
     }
-    if magnitude >= 0x4780_0000 {
+    if exp >= 143 {
         if magnitude == 0x7F80_0000 {
             return How::Exact;
         }
         return How::SentToInfinity;
     }
-    if magnitude % 0x2000 == 0 {
+    if bits % 0x2000 == 0 {
         return How::Exact;
     }
     How::Cut

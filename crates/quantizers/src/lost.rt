@@ -19,7 +19,7 @@ pub enum Packing {
 
 // What is lost once one more scale fared like this.
 pub(crate) fn count(lost: Lost, how: How) -> Lost
-    requires { ⌜ (lost .flushed < 2 ^ 32) × (lost .infinite < 2 ^ 32) ⌝ }
+    requires { ⌜ (lost .flushed < 2 ^ 63) × (lost .infinite < 2 ^ 63) ⌝ }
     ensures { λ r. ⌜ r ≡ counted lost how ⌝ }
 {
     match how {
