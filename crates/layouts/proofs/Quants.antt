@@ -9,7 +9,7 @@ use lib.ListN.{getD}
 use Rattle.numbers.specs.Fields.{le32}
 use Rattle.layouts.specs.Of32.{nibble, nibbleApart, quant32}
 use Rattle.layouts.specs.K.{nibblePaired, quantQ4K, quantQ5K, quantQ6K}
-use Rattle.layouts.specs.declared.format.Format32.the-variants.{Q40, Q50}
+use Rattle.layouts.specs.declared.format.Format32.the-variants.{Q40, Q40Ggml, Q50}
 
 -- ---- Q4_0: byte k has the neighbours 2 k and 2 k + 1
 
@@ -41,6 +41,11 @@ module _ (bs : List ℕ) (at k : ℕ) (h : k < 16) where
       let a : (k + 16) % 16 ≡ k = omega arith in
       let b : (k + 16) / 16 ≡ 1 = omega arith in
       rw (a, b)
+
+-- Q4_0 in GGML's order: the nibble at place i, which is n
+pub q40-ggml-at : (bs : List ℕ) (i n : ℕ) → nibbleApart bs 2 i ≡ n → quant32 Q40Ggml bs i ≡ pos n -ℤ pos 8
+unfolding quant32
+q40-ggml-at bs i n e = rw e
 
 -- Q5_0: the nibble at place i, which is n, with its high bit above it
 pub q50-at : (bs : List ℕ) (i n : ℕ) → nibbleApart bs 6 i ≡ n → quant32 Q50 bs i ≡ pos (n + 16 * (le32 bs 2 / 2 ^ i % 2)) -ℤ pos 16
