@@ -7,25 +7,29 @@ use lib.Arith.{digits-div}
 use lib.IntN.{pos, _-ℤ_}
 use lib.ListN.{getD}
 use Rattle.numbers.specs.Fields.{le32}
-use Rattle.layouts.specs.Of32.{nibble, nibbleApart, quant32}
+use Rattle.layouts.specs.Of32.{nibble, nibbleBeside, nibbleApart, quant32}
 use Rattle.layouts.specs.K.{nibblePaired, quantQ4K, quantQ5K, quantQ6K}
 use Rattle.layouts.specs.declared.format.Format32.the-variants.{Q40, Q40Ggml, Q50}
 
--- ---- Q4_0: byte k has the neighbours 2 k and 2 k + 1
+-- ---- nibbles that are neighbours: byte k has the places 2 k and 2 k + 1
 
-pub q40-low : (bs : List ℕ) (k : ℕ) → quant32 Q40 bs (2 * k) ≡ pos (getD bs (2 + k) 0 % 16) -ℤ pos 8
-unfolding quant32
-q40-low bs k =
-    let a : 2 * k / 2 ≡ k = omega arith in
-    let b : 2 * k % 2 ≡ 0 = omega arith in
-    rw (a, b)
+module _ (bs : List ℕ) (at k : ℕ) where
+  pub beside-low : nibbleBeside bs at (2 * k) ≡ getD bs (at + k) 0 % 16
+  beside-low =
+      let a : 2 * k / 2 ≡ k = omega arith in
+      let b : 2 * k % 2 ≡ 0 = omega arith in
+      rw (a, b)
 
-pub q40-high : (bs : List ℕ) (k : ℕ) → quant32 Q40 bs (2 * k + 1) ≡ pos (getD bs (2 + k) 0 / 16) -ℤ pos 8
+  pub beside-high : nibbleBeside bs at (2 * k + 1) ≡ getD bs (at + k) 0 / 16
+  beside-high =
+      let a : (2 * k + 1) / 2 ≡ k = omega arith in
+      let b : (2 * k + 1) % 2 ≡ 1 = omega arith in
+      rw (a, b)
+
+-- Q4_0: the nibble at place i, which is n
+pub q40-at : (bs : List ℕ) (i n : ℕ) → nibbleBeside bs 2 i ≡ n → quant32 Q40 bs i ≡ pos n -ℤ pos 8
 unfolding quant32
-q40-high bs k =
-    let a : (2 * k + 1) / 2 ≡ k = omega arith in
-    let b : (2 * k + 1) % 2 ≡ 1 = omega arith in
-    rw (a, b)
+q40-at bs i n e = rw e
 
 -- ---- nibbles 16 apart: byte k has the places k and k + 16
 

@@ -1,0 +1,4 @@
+-- What several proofs of `converters` share.
+pub mod Moved
+pub mod Refused
+pub mod Unique
