@@ -7,7 +7,7 @@ use mathlib.Core.List.{List, _++_}
 use lib.Arith.{digits-div, digits-mod}
 use lib.Dec.{lit<}
 use lib.ListN.{length, getD, set, take, drop}
-use Rattle.memory.specs.Lists.{table}
+use Rattle.memory.specs.Lists.{table, part}
 use Rattle.memory.proofs.Filled.{Filling, filling-start, filling-more, filled-all, part-turn}
 use Rattle.layouts.proofs.Quants.{beside-low, beside-high, apart-low, apart-high}
 use Rattle.converters.specs.Orders.{movedByte, convertedByte, convertedAt}
@@ -69,8 +69,6 @@ block-left d u bs out ys e L Y =
     (p .0 ∙ filled-all (convertedByte u bs) out 18 (le-of-eq L) ∙ ap (λ (v : Direction). table (convertedByte v bs) 18) (sym e), p .1)
 
 -- block b's byte at place l is the run's at place b * 18 + l
-pub placed : (d : Direction) (bs : List ℕ) (b l : ℕ) → l < 18 → convertedByte d (take (b * 18 + 18 - b * 18) (drop (b * 18) bs)) l ≡ convertedAt d bs (b * 18 + l)
+pub placed : (d : Direction) (bs : List ℕ) (b l : ℕ) → l < 18 → convertedByte d (part bs (b * 18) 18) l ≡ convertedAt d bs (b * 18 + l)
 unfolding convertedAt
-placed d bs b l h =
-    let e : b * 18 + 18 - b * 18 ≡ 18 = omega arith in
-    rw (e, digits-div b h, digits-mod b h)
+placed d bs b l h = rw (digits-div b h, digits-mod b h)

@@ -1,6 +1,6 @@
 -- The layouts' whole numbers at the places that a turn fills, by the bytes that it reads. Assumes nothing.
 use mathlib.Core.Path.{_≡_, ap, _∙_}
-use Prim.Native.Nat.{ℕ, _+_, _*_, _/_, _%_, _^_, _<_}
+use Prim.Native.Nat.{ℕ, zero, suc, _+_, _*_, _/_, _%_, _^_, _≤_, _<_}
 use native.Mathlib.Omega.{arith}
 use mathlib.Core.List.{List}
 use lib.Arith.{digits-div}
@@ -10,6 +10,10 @@ use Rattle.numbers.specs.Fields.{le32}
 use Rattle.layouts.specs.Of32.{nibble, nibbleBeside, nibbleApart, quant32}
 use Rattle.layouts.specs.K.{nibblePaired, quantQ4K, quantQ5K, quantQ6K}
 use Rattle.layouts.specs.declared.format.Format32.the-variants.{Q40, Q40Ggml, Q50}
+
+pub nibble-small : (b k : ℕ) → b < 256 → nibble b k ≤ 15
+nibble-small b zero h = omega arith
+nibble-small b (suc k) h = omega arith
 
 -- ---- nibbles that are neighbours: byte k has the places 2 k and 2 k + 1
 

@@ -39,9 +39,10 @@ loop-again c =
     let to = t .args .direction in
     let bs = t .args .bytes .now in
     let b = l .b in
+    let size : b * 18 + 18 - b * 18 ≡ 18 = omega arith in
     let inside : b * 18 + 18 ≤ length (t .args .out .now) = omega arith in
     parts-more (convertedAt to bs) (t .args .out .now) (λ k. k * 18) (length bs / 18) (convertedByte to (take (b * 18 + 18 - b * 18) (drop (b * 18) bs))) (l .out) _ b 18 (d .loop-test .taken) (rw add-one (suc-mul b 18)) inside (c .before .before .convert-block .ensures)
-    (placed to bs b) (l .inv)
+    (λ i h. rw size (placed to bs b i h)) (l .inv)
 
 same-length : tie.Need-same-length Inv-loop μ-loop
 same-length c = c .before .loop .inv .2
