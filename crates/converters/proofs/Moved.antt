@@ -50,23 +50,21 @@ pub behind-scale : (d : Direction) (bs : List ℕ) (l : ℕ) → movedByte d bs 
 unfolding convertedByte
 behind-scale d bs l = let e : 2 + l ≡ suc (suc l) = omega arith in rw e
 
--- the output with the scale's two bytes
-abbrev pub scaled : (bs out : List ℕ) → List ℕ
-scaled bs out = set (set out 0 (getD bs 0 0)) 1 (getD bs 1 0)
+-- the scale's two bytes are stored as they are
+module _ (d : Direction) (bs out : List ℕ) (lo hi : ℕ) (L : length out ≡ 18) (l : lo ≡ getD bs 0 0) (h : hi ≡ getD bs 1 0) where
+  scale-bytes : Filling (convertedByte d bs) out 18 (set (set out 0 lo) 1 hi) 2
+  unfolding convertedByte
+  scale-bytes =
+      let one = filling-more (convertedByte d bs) out 18 out 0 lo L (filling-start (convertedByte d bs) out 18 L) (lit< tt) l in
+      filling-more (convertedByte d bs) out 18 (set out 0 lo) 1 hi L one (lit< tt) h
 
-scale-bytes : (d : Direction) (bs out : List ℕ) → length out ≡ 18 → Filling (convertedByte d bs) out 18 (scaled bs out) 2
-unfolding convertedByte
-scale-bytes d bs out L =
-    let one = filling-more (convertedByte d bs) out 18 out 0 (getD bs 0 0) L (filling-start (convertedByte d bs) out 18 L) (lit< tt) refl in
-    filling-more (convertedByte d bs) out 18 (set out 0 (getD bs 0 0)) 1 (getD bs 1 0) L one (lit< tt) refl
-
--- the same with the moved nibbles behind them, of the direction u that the code was told of: a converted block
-pub block-left : (d u : Direction) (bs out ys : List ℕ) → d ≡ u → length out ≡ 18 → ys ≡ table (movedByte u bs) 16
-    → (let left = take 2 (scaled bs out) ++ (ys ++ drop (18 - 2) (drop 2 (scaled bs out))) in
-    (left ≡ table (convertedByte d bs) 18) × (length left ≡ length out))
-block-left d u bs out ys e L Y =
-    let p = part-turn (convertedByte u bs) (movedByte u bs) out (scaled bs out) ys 2 16 18 18 refl refl (le-of-eq (sym L)) (scale-bytes u bs out L .0) Y (λ l h. behind-scale u bs l) in
-    (p .0 ∙ filled-all (convertedByte u bs) out 18 (le-of-eq L) ∙ ap (λ (v : Direction). table (convertedByte v bs) 18) (sym e), p .1)
+  -- and then the moved nibbles behind them: a converted block
+  pub block-left : (ys : List ℕ) → ys ≡ table (movedByte d bs) 16
+      → (let left = take 2 (set (set out 0 lo) 1 hi) ++ (ys ++ drop (18 - 2) (drop 2 (set (set out 0 lo) 1 hi))) in
+      (left ≡ table (convertedByte d bs) 18) × (length left ≡ length out))
+  block-left ys Y =
+      let p = part-turn (convertedByte d bs) (movedByte d bs) out (set (set out 0 lo) 1 hi) ys 2 16 18 18 refl refl (le-of-eq (sym L)) (scale-bytes .0) Y (λ k u. behind-scale d bs k) in
+      (p .0 ∙ filled-all (convertedByte d bs) out 18 (le-of-eq L), p .1)
 
 -- block b's byte at place l is the run's at place b * 18 + l
 pub placed : (d : Direction) (bs : List ℕ) (b l : ℕ) → l < 18 → convertedByte d (part bs (b * 18) 18) l ≡ convertedAt d bs (b * 18 + l)

@@ -1,17 +1,20 @@
 -- Converting there and back restores the bytes, and the values of a converted block, by its own layout, are those that it had. Assumes nothing.
+use Prim.{Unit}
 use mathlib.Core.Path.{_≡_, refl, sym, ap, _∙_, subst}
 use mathlib.Core.Bool.{Bool, true, false}
 use Prim.Native.Nat.{ℕ, zero, suc, _+_, _-_, _*_, _/_, _%_, _≤_, _<_}
 use native.Mathlib.Nat.{div-add-mod', div-lt-iff-lt-mul}
 use native.Mathlib.Omega.{arith}
-use mathlib.Core.List.{List}
+use mathlib.Core.List.{List, _++_}
 use lib.Dec.{ltb, lit<}
 use lib.IntN.{ℤ, pos, _-ℤ_}
 use lib.Ieee.{Float}
-use lib.ListN.{length, getD}
-use borrow.Author.Tests.{ltb-true, ltb-false}
-use lib.Seq.{ext-getD}
-use Rattle.memory.specs.Lists.{table, part}
+use lib.ListN.{length, getD, take, drop}
+use borrow.Author.Tests.{ltb-true, ltb-false, le-ltb}
+use lib.Seq.{take-at, ext-getD}
+use Rattle.refusals.specs.Said.{Said, done}
+use Rattle.refusals.proofs.Laws.{given-no, given-passed, carried-value, carried-said}
+use Rattle.memory.specs.Lists.{table, filled, part}
 use Rattle.memory.proofs.Filled.{length-table, getD-table, table-ext, part-at, part-length}
 use Rattle.numbers.specs.Fields.{le16}
 use Rattle.layouts.specs.Of32.{nibbleBeside, nibbleApart, quant32, value32}
@@ -21,9 +24,11 @@ use Rattle.layouts.specs.declared.format.Format32.{Format32}
 use Rattle.layouts.specs.declared.format.Format32.the-variants.{Q40, Q40Ggml}
 use Rattle.layouts.proofs.Quants.{nibble-small, beside-low, beside-high, apart-low, apart-high}
 use Rattle.converters.specs.Orders.{movedByte, convertedByte, convertedAt, converted}
+use Rattle.converters.specs.Says.{convertRefusal, convertSays}
 use Rattle.converters.specs.declared.direction.Direction.{Direction}
 use Rattle.converters.specs.declared.direction.Direction.the-variants.{ToGgml, FromGgml}
 use Rattle.converters.proofs.Moved.{behind-scale, placed}
+use Rattle.converters.proofs.Refused.{whole-and-room}
 
 -- the order that a converter reads, the one that it writes, and the way back
 abbrev pub orderRead : Direction → Format32
@@ -84,15 +89,15 @@ module _ (bs : List ℕ) (bytes : (p : ℕ) → p < 18 → getD bs p 0 < 256) wh
   nibbles-kept ToGgml =
       by-halves (λ j. nibbleApart (moved ToGgml) 2 j ≡ nibbleBeside bs 2 j)
       (λ k h.
-          let low = beside-small k (omega arith) in
-          let byte = nibbles-at ToGgml k h in
-          (apart-low (moved ToGgml) 2 k h ∙ ap (λ (b : ℕ). b % 16) byte ∙ omega (arith, low), apart-high (moved ToGgml) 2 k h ∙ ap (λ (b : ℕ). b / 16) byte ∙ omega (arith, low)))
+      let low = beside-small k (omega arith) in
+      let byte = nibbles-at ToGgml k h in
+      (apart-low (moved ToGgml) 2 k h ∙ ap (λ (b : ℕ). b % 16) byte ∙ omega (arith, low), apart-high (moved ToGgml) 2 k h ∙ ap (λ (b : ℕ). b / 16) byte ∙ omega (arith, low)))
   nibbles-kept FromGgml =
       by-neighbours (λ j. nibbleBeside (moved FromGgml) 2 j ≡ nibbleApart bs 2 j)
       (λ k h.
-          let low = apart-small (2 * k) (omega arith) in
-          let byte = nibbles-at FromGgml k h in
-          (beside-low (moved FromGgml) 2 k ∙ ap (λ (b : ℕ). b % 16) byte ∙ omega (arith, low), beside-high (moved FromGgml) 2 k ∙ ap (λ (b : ℕ). b / 16) byte ∙ omega (arith, low)))
+      let low = apart-small (2 * k) (omega arith) in
+      let byte = nibbles-at FromGgml k h in
+      (beside-low (moved FromGgml) 2 k ∙ ap (λ (b : ℕ). b % 16) byte ∙ omega (arith, low), beside-high (moved FromGgml) 2 k ∙ ap (λ (b : ℕ). b / 16) byte ∙ omega (arith, low)))
 
   -- the scale's bytes are as they were
   scale-kept : (d : Direction) → le16 (moved d) 0 ≡ le16 bs 0
@@ -140,11 +145,11 @@ module _ (bs : List ℕ) (bytes : (i : ℕ) → getD bs i 0 < 256) (whole : leng
       let l : length (part (converted d bs) (q * 18) 18) ≡ 18 = rw size at (part-length (converted d bs) (q * 18) 18 (q * 18 + 18) refl room) in
       ext-getD 0 (part (converted d bs) (q * 18) 18) (table (convertedByte d (part bs (q * 18) 18)) 18) (l ∙ sym (length-table (convertedByte d (part bs (q * 18) 18)) 18))
       (λ p g.
-          let small : p < 18 = omega (arith, l) in
-          part-at (converted d bs) (q * 18) 18 p 0 small
-          ∙ getD-table (convertedAt d bs) (length bs) (q * 18 + p) 0 (omega arith)
-          ∙ sym (placed d bs q p small)
-          ∙ sym (getD-table (convertedByte d (part bs (q * 18) 18)) 18 p 0 small))
+      let small : p < 18 = omega (arith, l) in
+      part-at (converted d bs) (q * 18) 18 p 0 small
+      ∙ getD-table (convertedAt d bs) (length bs) (q * 18 + p) 0 (omega arith)
+      ∙ sym (placed d bs q p small)
+      ∙ sym (getD-table (convertedByte d (part bs (q * 18) 18)) 18 p 0 small))
 
   block-bytes : (q p : ℕ) → p < 18 → getD (part bs (q * 18) 18) p 0 < 256
   block-bytes q p h = rw (part-at bs (q * 18) 18 p 0 h) (bytes (q * 18 + p))
@@ -155,18 +160,18 @@ module _ (bs : List ℕ) (bytes : (i : ℕ) → getD bs i 0 < 256) (whole : leng
       let n : length (converted d bs) ≡ length bs = length-table (convertedAt d bs) (length bs) in
       ext-getD 0 (converted (back d) (converted d bs)) bs (length-table (convertedAt (back d) (converted d bs)) (length (converted d bs)) ∙ n)
       (λ i g.
-          let h : i < length bs = omega (arith, length-table (convertedAt (back d) (converted d bs)) (length (converted d bs)), n) in
-          let q = i / 18 in
-          let p = i % 18 in
-          let place : q * 18 + p ≡ i = omega arith in
-          let small : p < 18 = omega arith in
-          getD-table (convertedAt (back d) (converted d bs)) (length (converted d bs)) i 0 (omega (arith, n))
-          ∙ ap (convertedAt (back d) (converted d bs)) (sym place)
-          ∙ sym (placed (back d) (converted d bs) q p small)
-          ∙ ap (λ (b : List ℕ). convertedByte (back d) b p) (block-converted d q (omega arith))
-          ∙ restored (part bs (q * 18) 18) (block-bytes q) d p small
-          ∙ part-at bs (q * 18) 18 p 0 small
-          ∙ ap (λ (k : ℕ). getD bs k 0) place)
+      let h : i < length bs = omega (arith, length-table (convertedAt (back d) (converted d bs)) (length (converted d bs)), n) in
+      let q = i / 18 in
+      let p = i % 18 in
+      let place : q * 18 + p ≡ i = omega arith in
+      let small : p < 18 = omega arith in
+      getD-table (convertedAt (back d) (converted d bs)) (length (converted d bs)) i 0 (omega (arith, n))
+      ∙ ap (convertedAt (back d) (converted d bs)) (sym place)
+      ∙ sym (placed (back d) (converted d bs) q p small)
+      ∙ ap (λ (b : List ℕ). convertedByte (back d) b p) (block-converted d q (omega arith))
+      ∙ restored (part bs (q * 18) 18) (block-bytes q) d p small
+      ∙ part-at bs (q * 18) 18 p 0 small
+      ∙ ap (λ (k : ℕ). getD bs k 0) place)
 
   -- (b) the values of the converted run, by its own layout, are those that it had
   same-at : (d : Direction) (i : ℕ) → i < length bs / 18 * 32 → weightAt (Of32 (orderWritten d)) (converted d bs) i ≡ weightAt (Of32 (orderRead d)) bs i
@@ -177,3 +182,29 @@ module _ (bs : List ℕ) (bytes : (i : ℕ) → getD bs i 0 < 256) (whole : leng
   pub same-weights : (d : Direction) → (let n = valuesOf (Of32 (orderRead d)) (length bs) in table (weightAt (Of32 (orderWritten d)) (converted d bs)) n ≡ table (weightAt (Of32 (orderRead d)) bs) n)
   same-weights ToGgml = table-ext (weightAt (Of32 Q40Ggml) (converted ToGgml bs)) (weightAt (Of32 Q40) bs) (length bs / 18 * 32) (same-at ToGgml)
   same-weights FromGgml = table-ext (weightAt (Of32 Q40) (converted FromGgml bs)) (weightAt (Of32 Q40Ggml) bs) (length bs / 18 * 32) (same-at FromGgml)
+
+-- ---- as the calls say it
+
+-- what the checks let through into `out` they let through into any room that is as long as the bytes
+lets-through : (n out room : ℕ) → convertRefusal n out ≡ done → n ≤ room → convertRefusal n room ≡ done
+unfolding convertRefusal
+lets-through n out room e h =
+    let large = given-passed _ _ _ _ e in
+    let torn = given-passed _ _ _ _ (large .1) in
+    given-no _ _ _ (large .0) ∙ given-no _ _ _ (torn .0) ∙ given-no _ _ _ (le-ltb _ _ h)
+
+-- a converter that is done, and the other one over what it wrote: its output begins with the first bytes
+pub restores : (d : Direction) (bs out left room : List ℕ) → ((i : ℕ) → getD bs i 0 < 256) → convertSays d bs out ≡ (done, left) → length bs ≤ length room
+    → convertSays (back d) (take (length bs) left) room ≡ (done, bs ++ drop (length bs) room)
+unfolding convertSays
+restores d bs out left room bytes e h =
+    let n = length bs in
+    let passed : convertRefusal n (length out) ≡ done = sym (carried-said (convertRefusal n (length out)) (filled (convertedAt d bs) out n) out) ∙ ap (λ (p : Said (Unit {0}) × List ℕ). p .0) e in
+    let size : length (converted d bs) ≡ n = length-table (convertedAt d bs) n in
+    let wrote : left ≡ converted d bs ++ drop n out = ap (λ (p : Said (Unit {0}) × List ℕ). p .1) (sym e ∙ carried-value (convertRefusal n (length out)) (filled (convertedAt d bs) out n) out _ passed) in
+    let read : take n left ≡ converted d bs = ap (take n) wrote ∙ take-at (converted d bs) (drop n out) n size in
+    let there = there-and-back bs bytes (whole-and-room n (length out) passed .0) d in
+    ap (λ (cs : List ℕ). convertSays (back d) cs room) read
+    ∙ carried-value (convertRefusal (length (converted d bs)) (length room)) (filled (convertedAt (back d) (converted d bs)) room (length (converted d bs))) room _ (ap (λ (k : ℕ). convertRefusal k (length room)) size ∙ lets-through n (length out) (length room) passed h)
+    ∙ ap (λ (k : ℕ). (done, converted (back d) (converted d bs) ++ drop k room)) size
+    ∙ ap (λ (cs : List ℕ). (done, cs ++ drop n room)) there
