@@ -6,9 +6,10 @@ use native.Mathlib.Omega.{arith}
 use mathlib.Core.List.{List, _++_}
 use lib.Arith.{digits-div, digits-mod}
 use lib.Dec.{lit<}
-use lib.ListN.{length, getD, set, take, drop}
+use lib.ListN.{length, getD, set, take, drop, length-append, length-drop}
+use lib.Seq.{length-take-le}
 use Rattle.memory.specs.Lists.{table, part}
-use Rattle.memory.proofs.Filled.{Filling, filling-start, filling-more, filled-all, part-turn}
+use Rattle.memory.proofs.Filled.{Filling, filling-start, filling-more, length-table, filled-all, filled-part}
 use Rattle.layouts.proofs.Quants.{beside-low, beside-high, apart-low, apart-high}
 use Rattle.converters.specs.Orders.{movedByte, convertedByte, convertedAt}
 use Rattle.converters.specs.declared.direction.Direction.{Direction}
@@ -59,12 +60,17 @@ module _ (d : Direction) (bs out : List ℕ) (lo hi : ℕ) (L : length out ≡ 1
       filling-more (convertedByte d bs) out 18 (set out 0 lo) 1 hi L one (lit< tt) h
 
   -- and then the moved nibbles behind them: a converted block
-  pub block-left : (ys : List ℕ) → ys ≡ table (movedByte d bs) 16
-      → (let left = take 2 (set (set out 0 lo) 1 hi) ++ (ys ++ drop (18 - 2) (drop 2 (set (set out 0 lo) 1 hi))) in
-      (left ≡ table (convertedByte d bs) 18) × (length left ≡ length out))
+  pub block-left : (ys : List ℕ) → ys ≡ table (movedByte d bs) 16 → take 2 (set (set out 0 lo) 1 hi) ++ (ys ++ drop (18 - 2) (drop 2 (set (set out 0 lo) 1 hi))) ≡ table (convertedByte d bs) 18
   block-left ys Y =
-      let p = part-turn (convertedByte d bs) (movedByte d bs) out (set (set out 0 lo) 1 hi) ys 2 16 18 18 refl refl (le-of-eq (sym L)) (scale-bytes .0) Y (λ k u. behind-scale d bs k) in
-      (p .0 ∙ filled-all (convertedByte d bs) out 18 (le-of-eq L), p .1)
+      filled-part (convertedByte d bs) (movedByte d bs) out (set (set out 0 lo) 1 hi) ys 2 16 18 refl (scale-bytes .0) Y (λ k u. behind-scale d bs k)
+      ∙ filled-all (convertedByte d bs) out 18 (le-of-eq L)
+
+-- whatever is stored behind a scale, the block is as long as it was
+pub left-long : (g : ℕ → ℕ) (o ys : List ℕ) → length o ≡ 18 → ys ≡ table g 16 → length (take 2 o ++ (ys ++ drop (18 - 2) (drop 2 o))) ≡ 18
+left-long g o ys L Y =
+    let front = length-take-le 2 o (omega arith) in
+    let nibbles = ap length Y ∙ length-table g 16 in
+    simp (length-append, length-drop) (omega (arith, front, nibbles, L))
 
 -- block b's byte at place l is the run's at place b * 18 + l
 pub placed : (d : Direction) (bs : List ℕ) (b l : ℕ) → l < 18 → convertedByte d (part bs (b * 18) 18) l ≡ convertedAt d bs (b * 18 + l)

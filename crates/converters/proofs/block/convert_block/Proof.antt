@@ -9,7 +9,7 @@ use borrow.Author.Needs.{needs}
 use Rattle.converters.specs.Orders.{movedByte, convertedByte}
 use Rattle.converters.specs.declared.direction.Direction.{Direction}
 use Rattle.converters.specs.declared.direction.Direction.the-variants.{ToGgml, FromGgml}
-use Rattle.converters.proofs.Moved.{block-left}
+use Rattle.converters.proofs.Moved.{block-left, left-long}
 use Rattle.converters.proofs.block.convert_block.Statement.{statement}
 use Rattle.converters.proofs.block.convert_block.Tie as tie
 
@@ -19,26 +19,31 @@ part-move-apart-end c = simp length-set (omega arith)
 part-move-together-end : tie.Need-part-move-together-end
 part-move-together-end c = simp length-set (omega arith)
 
--- the output after the arm of the direction u that the code was told of
-by : (u : Direction) (t : tie.Start) {lo hi : ℕ} {ys : List ℕ} → t .args .direction ≡ u → lo ≡ getD (t .args .block .now) 0 0 → hi ≡ getD (t .args .block .now) 1 0 → ys ≡ table (movedByte u (t .args .block .now)) 16
-    → (let out = set (set (t .args .out .now) 0 lo) 1 hi in
-    let left = take 2 out ++ (ys ++ drop (18 - 2) (drop 2 out)) in
-    (left ≡ table (convertedByte (t .args .direction) (t .args .block .now)) 18) × (length left ≡ length (t .args .out .now)))
-by u t {lo} {hi} {ys} e l h Y =
-    let p = block-left u (t .args .block .now) (t .args .out .now) lo hi (t .pre .1) l h ys Y in
-    (p .0 ∙ ap (λ (d : Direction). table (convertedByte d (t .args .block .now)) 18) (sym e), p .1)
+-- the output with the scale's two bytes
+abbrev scaled : tie.Start → List ℕ
+scaled t = let bs = t .args .block .now in set (set (t .args .out .now) 0 (getD bs 0 0)) 1 (getD bs 1 0)
+
+-- the same after the arm of the direction u that the code was told of
+by : (u : Direction) (t : tie.Start) {ys : List ℕ} → t .args .direction ≡ u → ys ≡ table (movedByte u (t .args .block .now)) 16
+    → take 2 (scaled t) ++ (ys ++ drop (18 - 2) (drop 2 (scaled t))) ≡ table (convertedByte (t .args .direction) (t .args .block .now)) 18
+by u t e Y =
+    let bs = t .args .block .now in
+    block-left u bs (t .args .out .now) _ _ (t .pre .1) refl refl _ Y ∙ ap (λ (d : Direction). table (convertedByte d bs) 18) (sym e)
+
+long : (t : tie.Start) (g : ℕ → ℕ) {ys : List ℕ} → ys ≡ table g 16 → length (take 2 (scaled t) ++ (ys ++ drop (18 - 2) (drop 2 (scaled t)))) ≡ length (t .args .out .now)
+long t g {ys} Y = left-long g (scaled t) ys (simp length-set (t .pre .1)) Y ∙ sym (t .pre .1)
 
 same-length : tie.Need-same-length
-same-length c = by ToGgml (c .before .before .before .before .before .before .before .before .before .before) (c .before .before .before .before .enum-told .given .1) refl refl (c .before .before .move-apart .ensures) .1
+same-length c = long (c .before .before .before .before .before .before .before .before .before .before) _ (c .before .before .move-apart .ensures)
 
 returns : tie.Need-returns
-returns c = by ToGgml (c .before .before .before .before .before .before .before .before .before .before) (c .before .before .before .before .enum-told .given .1) refl refl (c .before .before .move-apart .ensures) .0
+returns c = by ToGgml (c .before .before .before .before .before .before .before .before .before .before) (c .before .before .before .before .enum-told .given .1) (c .before .before .move-apart .ensures)
 
 same-length-2 : tie.Need-same-length-2
-same-length-2 c = by FromGgml (c .before .before .before .before .before .before .before .before .before .before) (c .before .before .before .before .enum-told2 .given .1) refl refl (c .before .before .move-together .ensures) .1
+same-length-2 c = long (c .before .before .before .before .before .before .before .before .before .before) _ (c .before .before .move-together .ensures)
 
 returns-2 : tie.Need-returns-2
-returns-2 c = by FromGgml (c .before .before .before .before .before .before .before .before .before .before) (c .before .before .before .before .enum-told2 .given .1) refl refl (c .before .before .move-together .ensures) .0
+returns-2 c = by FromGgml (c .before .before .before .before .before .before .before .before .before .before) (c .before .before .before .before .enum-told2 .given .1) (c .before .before .move-together .ensures)
 
 pub convert-block-spec : {M : Type 1} → statement M
 convert-block-spec =
