@@ -1,5 +1,4 @@
 -- What the program is to judge of a row, in terms of what the calls answer. Assumes nothing.
-use Prim.{Unit}
 use mathlib.Core.Path.{_≡_, refl, sym, ap, _∙_}
 use mathlib.Core.Bool.{Bool, true, false, cond}
 use mathlib.Core.List.{List, [], _∷_}
@@ -9,21 +8,26 @@ use lib.Dec.{eqb}
 use lib.ListN.{length, getD, replicate, List·getD-map}
 use lib.Ieee.{Float, binary32, toBits}
 use borrow.Author.Tests.{eq-eqb, le-ltb}
-use Rattle.refusals.specs.Said.{Said, done, outcomeSays}
-use Rattle.refusals.specs.Refusals.{given, carriedOut}
-use Rattle.refusals.specs.declared.Outcome.{Outcome}
+use Rattle.refusals.specs.Said.{Said, value}
+use Rattle.refusals.specs.Refusals.{given, orElse, carriedOut}
+use Rattle.refusals.specs.declared.Refusal.{Refusal}
+use Rattle.refusals.proofs.Laws.{apart}
 use Rattle.memory.specs.Lists.{table, filled, every}
 use Rattle.memory.proofs.Filled.{length-filled}
 use Rattle.numbers.specs.Fields.{byteOf}
 use Rattle.readings.specs.Readings.{inverse}
 use Rattle.quantizers.specs.Says.{packedAt, quantizeRefusal, quantizeSays}
+use Rattle.quantizers.specs.Lost.{lostBy, packingSays}
+use Rattle.quantizers.specs.declared.lost.Lost.{Lost}
+use Rattle.quantizers.specs.declared.lost.Packing.{Packing}
+use Rattle.quantizers.specs.declared.lost.Packing.the-variants as packing
 use Rattle.quantizers.specs.declared.target.Target.the-variants.{Q40}
 use Rattle.sums.specs.Says.{sumSays}
 use Rattle.dots_activation.specs.Whole.{elem}
 use Rattle.dots_activation.specs.Blocks.{blockSaid, blockSays}
 use Rattle.dots_activation.specs.declared.block.Q8Block.{Q8Block}
 use Rattle.memory.proofs.Every.{every-all}
-use Rattle.replay_answers.specs.Same.{saysNumber, sameBytes}
+use Rattle.replay_answers.specs.Same.{sameBytes}
 use Rattle.bench_rows.specs.Card.{Row, row, widen, floats, valueBits, writtenBy, firstQuants, answer, card, rowAt, sameNumbers, answered}
 use Rattle.bench_rows.specs.Rows.{meant, judged}
 use Rattle.bench_rows.specs.declared.table.Row.the-variants.{Packs, Sums, Quantizes}
@@ -39,24 +43,24 @@ sayings a b c = a ∷ b ∷ c ∷ replicate 15 0x88
 abbrev pub packedFrom : ℕ → List Float
 packedFrom first = floats (first ∷ replicate 31 0)
 
-is-done : (first : ℕ) → quantizeSays Q40 (packedFrom first) (replicate 18 0) ≡ (done, filled (packedAt Q40 (packedFrom first)) (replicate 18 0) 18)
-unfolding quantizeSays quantizeRefusal given carriedOut
+is-done : (first : ℕ) → quantizeSays Q40 (packedFrom first) (replicate 18 0) ≡ (value (lostBy Q40 (packedFrom first)), filled (packedAt Q40 (packedFrom first)) (replicate 18 0) 18)
+unfolding quantizeSays quantizeRefusal given orElse carriedOut
 is-done first = refl
 
 same-length : (xs ys : List ℕ) → length xs ≡ length ys → sameBytes xs ys ≡ sameNumbers xs ys
 unfolding sameBytes sameNumbers
 same-length xs ys h = rw (h, le-ltb (length ys) (length ys) (omega arith), eq-eqb (length ys) (length ys) refl)
 
-module _ (first a b c : ℕ) (o : Outcome) (out : List ℕ) (e : (outcomeSays o, out) ≡ quantizeSays Q40 (packedFrom first) (replicate 18 0)) where
-  pub packed-done : saysNumber (outcomeSays o) 0 ≡ true
-  packed-done =
-      let d : outcomeSays o ≡ done = ap (λ (p : Said (Unit {0}) × List ℕ). p .0) (e ∙ is-done first) in
-      rw d
+module _ (first a b c : ℕ) (o : Packing) (out : List ℕ) (e : (packingSays o, out) ≡ quantizeSays Q40 (packedFrom first) (replicate 18 0)) where
+  pub packed-done : (why : Refusal) → o ≡ packing.Refused why → ⊥
+  packed-done why r =
+      let d : packingSays o ≡ value (lostBy Q40 (packedFrom first)) = ap (λ (p : Said Lost × List ℕ). p .0) (e ∙ is-done first) in
+      apart why _ (sym (ap packingSays r) ∙ d)
 
   pub packed-judged : sameBytes out (sayings a b c) ≡ judged (Packs first a b c)
   unfolding judged meant answered answer
   packed-judged =
-      let d : out ≡ filled (packedAt Q40 (packedFrom first)) (replicate 18 0) 18 = ap (λ (p : Said (Unit {0}) × List ℕ). p .1) (e ∙ is-done first) in
+      let d : out ≡ filled (packedAt Q40 (packedFrom first)) (replicate 18 0) 18 = ap (λ (p : Said Lost × List ℕ). p .1) (e ∙ is-done first) in
       let l : length out ≡ 18 = ap length d ∙ length-filled (packedAt Q40 (packedFrom first)) (replicate 18 0) 18 (omega arith) in
       same-length out (sayings a b c) l
       ∙ ap (λ (xs : List ℕ). sameNumbers xs (sayings a b c)) (d ∙ sym (ap writtenBy (is-done first)))

@@ -1,6 +1,5 @@
 -- Document 01's bench card as one table: what each row asks, what the card says, and what the definitions that the
 -- contracts cite answer. Definitions only.
-use Prim.{Unit}
 use Prim.Native.Nat.{ℕ, _-_}
 use mathlib.Core.Bool.{Bool, false, cond}
 use mathlib.Core.List.{List, [], _∷_, map}
@@ -52,8 +51,8 @@ valueBits (value v) = toBits binary32 v ∷ []
 valueBits (refused why) = []
 
 -- what stands in the output of a call that is done; a refusal writes nothing
-abbrev pub writtenBy : Said (Unit {0}) × List ℕ → List ℕ
-writtenBy (value finished, out) = out
+abbrev pub writtenBy : {A : Type 0} → Said A × List ℕ → List ℕ
+writtenBy (value said, out) = out
 writtenBy (refused why, out) = []
 
 -- of an activation block of n readings: the inverse of its scale, and their quants

@@ -5,11 +5,11 @@ use halves::bits_of;
 use halves::f32_to_f16;
 use halves::of_bits;
 use numbers::unsigned_byte;
+use quantizers::Packing;
 use readings::inverse_of;
 use readings::round_q8;
 use refusals::Answer;
 use replay_answers::same_bytes;
-use replay_answers::says;
 ghost use mathlib.Core.Bool.{true};
 ghost use mathlib.Core.List.{[], _∷_};
 ghost use mathlib.Core.Path.{_≡_};
@@ -26,7 +26,7 @@ fn widens(half: u16, bits: u32) -> bool
 fn encodes(a: u32, x: u16) -> bool
     ensures { λ r. ⌜ r ≡ judged (Row.Encodes a x) ⌝ }
 {
-    f32_to_f16(a) == x
+    f32_to_f16(a).bits == x
 }
 
 fn encodes_two(a: u32, x: u16, b: u32, y: u16) -> bool
@@ -63,7 +63,10 @@ fn packs(first: u32, a: u8, b: u8, c: u8) -> bool
     card[1] = b;
     card[2] = c;
     let mut out = [0u8; 18];
-    says(quantizers::quantize_q4_0(&readings, &mut out), 0) && same_bytes(&out, &card)
+    let Packing::Packed(_) = quantizers::quantize_q4_0(&readings, &mut out) else {
+        return false;
+    };
+    same_bytes(&out, &card)
 }
 
 fn sums_to(first: u32, bits: u32) -> bool

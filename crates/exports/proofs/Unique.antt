@@ -50,8 +50,8 @@ use Rattle.exports.proofs.stepped_layer.jambharrow_close.Reads as closi
 pub f16-to-f32-once : OneResult f16-to-f32.Post
 f16-to-f32-once κs a x y s t h k = same h k
 
-pub f32-to-f16-once : OneResult f32-to-f16.Post
-f32-to-f16-once κs a x y s t h k = same h k
+pub f32-to-f16-once : OneCall f32-to-f16.Post (λ κs s. now (s .1 .0))
+f32-to-f16-once κs a x y s t h k = both h k
 
 pub dequantize-q4-0-once : OneCall dequantize-q4-0.Post (λ κs s. now (s .1 .0))
 dequantize-q4-0-once κs a x y s t h k = both h k
@@ -71,10 +71,10 @@ dequantize-q5-k-once κs a x y s t h k = both h k
 pub dequantize-q6-k-once : OneCall dequantize-q6-k.Post (λ κs s. now (s .1 .0))
 dequantize-q6-k-once κs a x y s t h k = both h k
 
-pub quantize-q4-0-once : OneCall quantize-q4-0.Post (λ κs s. now (s .1 .0))
+pub quantize-q4-0-once : OneCall {M = List ℕ × List ℕ} quantize-q4-0.Post (λ κs s. (now (s .1 .0), now (s .1 .1 .0)))
 quantize-q4-0-once κs a x y s t h k = both h k
 
-pub quantize-q8-0-once : OneCall quantize-q8-0.Post (λ κs s. now (s .1 .0))
+pub quantize-q8-0-once : OneCall {M = List ℕ × List ℕ} quantize-q8-0.Post (λ κs s. (now (s .1 .0), now (s .1 .1 .0)))
 quantize-q8-0-once κs a x y s t h k = both h k
 
 pub canonical-chunk-once : OneCall canonical-chunk.Post (λ κs s. now (s .1 .1 .0))

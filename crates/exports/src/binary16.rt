@@ -1,6 +1,9 @@
 // Binary16.
+use c_answers::number_of_how;
 ghost use mathlib.Core.Path.{_≡_};
-ghost use Rattle.halves.specs.Binary16.{widened, narrowed};
+ghost use Rattle.halves.specs.Binary16.{widened};
+ghost use Rattle.halves.specs.How.{narrowing};
+ghost use Rattle.c_answers.specs.Lost.{numberedHow};
 
 // `halves::f16_to_f32`, for C.
 #[no_mangle]
@@ -12,8 +15,11 @@ pub extern "C" fn jambharrow_f16_to_f32(half: u16) -> f32
 
 // `halves::f32_to_f16`, for C.
 #[no_mangle]
-pub extern "C" fn jambharrow_f32_to_f16(bits: u32) -> u16
-    ensures { λ r. ⌜ r ≡ narrowed bits ⌝ }
+pub extern "C" fn jambharrow_f32_to_f16(bits: u32, how: &mut u32) -> u16
+    ensures { λ r. ⌜ (r, now (how .exit)) ≡ numberedHow (narrowing bits) ⌝ }
 {
-    halves::f32_to_f16(bits)
+    let made = halves::f32_to_f16(bits);
+    let fared = made.how;
+    *how = number_of_how(fared);
+    made.bits
 }

@@ -1,22 +1,24 @@
 // The block quantizers.
-use c_answers::number_of;
+use c_answers::number_and_lost;
 use quantizers::Target;
 ghost use mathlib.Core.Path.{_≡_};
 ghost use Rattle.quantizers.specs.Says.{quantizeSays};
-ghost use Rattle.c_answers.specs.Answers.{numbered};
+ghost use Rattle.c_answers.specs.Lost.{numberedLost};
 
 // `quantizers::quantize_q4_0`, for C.
 #[no_mangle]
-pub extern "C" fn jambharrow_quantize_q4_0(x: &[f32], out: &mut [u8]) -> u32
-    ensures { λ r. ⌜ (r, now (out .exit)) ≡ numbered (quantizeSays Target.Q40 (now (x .entry)) (now (out .entry))) ⌝ }
+pub extern "C" fn jambharrow_quantize_q4_0(x: &[f32], out: &mut [u8], lost: &mut [usize; 2]) -> u32
+    ensures { λ r. ⌜ (r, (now (out .exit), now (lost .exit)))
+        ≡ numberedLost (quantizeSays Target.Q40 (now (x .entry)) (now (out .entry))) (now (lost .entry)) ⌝ }
 {
-    number_of(quantizers::quantize_q4_0(x, out))
+    number_and_lost(quantizers::quantize_q4_0(x, out), lost)
 }
 
 // `quantizers::quantize_q8_0`, for C.
 #[no_mangle]
-pub extern "C" fn jambharrow_quantize_q8_0(x: &[f32], out: &mut [u8]) -> u32
-    ensures { λ r. ⌜ (r, now (out .exit)) ≡ numbered (quantizeSays Target.Q80 (now (x .entry)) (now (out .entry))) ⌝ }
+pub extern "C" fn jambharrow_quantize_q8_0(x: &[f32], out: &mut [u8], lost: &mut [usize; 2]) -> u32
+    ensures { λ r. ⌜ (r, (now (out .exit), now (lost .exit)))
+        ≡ numberedLost (quantizeSays Target.Q80 (now (x .entry)) (now (out .entry))) (now (lost .entry)) ⌝ }
 {
-    number_of(quantizers::quantize_q8_0(x, out))
+    number_and_lost(quantizers::quantize_q8_0(x, out), lost)
 }

@@ -1,6 +1,7 @@
--- What binary16 is as numbers, and what several proofs share.
+-- What binary16 is as numbers, how a narrowing fares, and what several proofs share.
 pub mod Widening
 pub mod Narrowing
+pub mod Fares
 pub mod Unique
 pub mod SameValue
 pub mod Patterns

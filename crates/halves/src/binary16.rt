@@ -1,9 +1,12 @@
 // Binary16, in which every packed block keeps its scales: widened as IEEE 754 has it, narrowed as quant.rs does.
+use crate::how::Narrowed;
+use crate::how::how_narrowed;
 ghost use mathlib.Core.Path.{_≡_};
 ghost use Prim.Native.Nat.{_≤_, _<_, _*_, _^_};
 ghost use lib.Dec.{eqb};
 ghost use lib.Ieee.{binary32, round};
-ghost use Rattle.halves.specs.Binary16.{widened, magnitude16, narrowed};
+ghost use Rattle.halves.specs.Binary16.{widened, magnitude16};
+ghost use Rattle.halves.specs.How.{narrowing};
 
 // The normal binary32 with the sign bit `sign`, the exponent field `exp` and the eleven leading digits `digits`.
 fn normal(sign: u32, exp: u32, digits: u32) -> f32
@@ -60,13 +63,18 @@ fn narrowed_magnitude(exp: u32, mant: u32) -> u16
     ((exp - 112) * 1024 + mant) as u16
 }
 
-// The binary16 that quant.rs makes of a binary32: the digits that do not fit are cut, below 2^-14 is a signed zero,
-// and what is too large is an infinity, a NaN too. It works on bit patterns, since a NaN has a sign there alone.
-pub fn f32_to_f16(bits: u32) -> u16
-    ensures { λ r. ⌜ r ≡ narrowed bits ⌝ }
+// The binary16 that quant.rs makes of a binary32, and how the number fared: the digits that do not fit are cut, below
+// 2^-14 is a signed zero, and what is too large is an infinity, a NaN too. It works on bit patterns, since a NaN has a
+// sign there alone.
+pub fn f32_to_f16(bits: u32) -> Narrowed
+    ensures { λ r. ⌜ r ≡ narrowing bits ⌝ }
 {
     let sign = (bits / 0x8000_0000) as u16;
     let exp = bits / 0x80_0000 % 256;
     let mant = bits / 0x2000 % 1024;
-    sign * 0x8000 + narrowed_magnitude(exp, mant)
+    let half = sign * 0x8000 + narrowed_magnitude(exp, mant);
+    Narrowed {
+        bits: half,
+        how: how_narrowed(bits),
+    }
 }

@@ -1,3 +1,4 @@
 -- What several proofs of `quantizers` share.
 pub mod Bytes
+pub mod Counts
 pub mod Unique

@@ -6,13 +6,15 @@ use mathlib.Core.List.{List}
 use lib.Dec.{ltb, eqb}
 use lib.ListN.{length}
 use lib.Ieee.{Float}
-use Rattle.refusals.specs.Said.{Said, no, done}
+use Rattle.refusals.specs.Said.{Said, value, no, done}
 use Rattle.refusals.specs.Sizes.{mostFloats}
-use Rattle.refusals.specs.Refusals.{given, carriedOut}
+use Rattle.refusals.specs.Refusals.{given, orElse, carriedOut}
 use Rattle.memory.specs.Lists.{filled, part}
 use Rattle.layouts.specs.Formats.{bytes32}
 use Rattle.quantizers.specs.Blocks.{formatOf, byteAt}
+use Rattle.quantizers.specs.Lost.{lostBy}
 use Rattle.quantizers.specs.declared.target.Target.{Target}
+use Rattle.quantizers.specs.declared.lost.Lost.{Lost}
 
 -- byte i of the quantised readings: byte i mod size of block i / size, which is made of the 32 readings from 32 (i /
 -- size) on
@@ -31,7 +33,8 @@ quantizeRefusal t n room =
     (given (no 5) (ltb room (bytesFor t n))
     done))
 
--- every block's bytes at the front of the output, whose surplus places are kept
-unfoldable pub quantizeSays : Target → List Float → List ℕ → Said (Unit {0}) × List ℕ
+-- every block's bytes at the front of the output, whose surplus places are kept, and what the blocks' scales lost
+unfoldable pub quantizeSays : Target → List Float → List ℕ → Said Lost × List ℕ
 quantizeSays t xs out =
-    carriedOut (quantizeRefusal t (length xs) (length out)) (filled (packedAt t xs) out (bytesFor t (length xs))) out
+    carriedOut (orElse (quantizeRefusal t (length xs) (length out)) (value (lostBy t xs)))
+    (filled (packedAt t xs) out (bytesFor t (length xs))) out

@@ -1,14 +1,18 @@
 // One block: the scale it gets, the scale as it is stored, and its quants.
 use crate::target::Target;
+use halves::How;
+use halves::Narrowed;
 ghost use mathlib.Core.Path.{_≡_};
 ghost use Prim.Native.Nat.{_+_, _*_};
 ghost use lib.ListN.{length, getD};
-ghost use lib.Ieee.{nan, binary32, mul};
+ghost use lib.Ieee.{nan, binary32, mul, toBits};
 ghost use Rattle.memory.specs.Lists.{table};
+ghost use Rattle.halves.specs.How.{narrowing};
 ghost use Rattle.numbers.specs.Fields.{byteOf};
 ghost use Rattle.layouts.specs.Formats.{bytes32};
 ghost use Rattle.readings.specs.Readings.{quantQ8, quantQ40};
-ghost use Rattle.quantizers.specs.Blocks.{formatOf, scaleOf, storedScale, byteAt};
+ghost use Rattle.quantizers.specs.Blocks.{formatOf, scaleOf, byteAt};
+ghost use Rattle.quantizers.specs.Lost.{scaleFares};
 
 // The scale that a block gets: d.
 fn scale_of(target: Target, x: &[f32]) -> f32
@@ -21,9 +25,9 @@ fn scale_of(target: Target, x: &[f32]) -> f32
     }
 }
 
-// The scale as it is stored, a binary16.
-fn stored_scale(d: f32) -> u16
-    ensures { λ r. ⌜ r ≡ storedScale d ⌝ }
+// The scale as it is stored, a binary16, and how it fares.
+fn stored_scale(d: f32) -> Narrowed
+    ensures { λ r. ⌜ r ≡ narrowing (toBits binary32 d) ⌝ }
 {
     halves::f32_to_f16(halves::bits_of(d))
 }
@@ -53,18 +57,21 @@ fn write_quants_q8_0(x: &[f32], inverse: f32, out: &mut [u8])
     }
 }
 
-// One block's bytes.
-pub fn quantize_block(target: Target, x: &[f32], out: &mut [u8])
+// One block's bytes, and how its scale fares when it is stored.
+pub fn quantize_block(target: Target, x: &[f32], out: &mut [u8]) -> How
     requires { ⌜ (length (now x) ≡ 32) × (length (now out) ≡ bytes32 (formatOf target)) ⌝ }
-    ensures { λ _. ⌜ now (out .exit) ≡ table (byteAt target (now (x .entry))) (bytes32 (formatOf target)) ⌝ }
+    ensures { λ r. ⌜ (r ≡ scaleFares target (now (x .entry)))
+        × (now (out .exit) ≡ table (byteAt target (now (x .entry))) (bytes32 (formatOf target))) ⌝ }
 {
     let d = scale_of(target, x);
     let inverse = readings::inverse_of(d);
-    let half = stored_scale(d);
+    let stored = stored_scale(d);
+    let half = stored.bits;
     out[0] = (half % 256) as u8;
     out[1] = (half / 256) as u8;
     match target {
         Target::Q40 => write_quants_q4_0(x, inverse, &mut out[2..18]),
         Target::Q80 => write_quants_q8_0(x, inverse, &mut out[2..34]),
     }
+    stored.how
 }

@@ -1,35 +1,45 @@
 // The quantizers: every block's bytes, each block's in its own places in the middle of the output.
 use crate::block::quantize_block;
+use crate::lost::Lost;
+use crate::lost::Packing;
+use crate::lost::count;
 use crate::target::Target;
 use crate::target::format_of;
 use layouts::Format;
 use layouts::block_bytes;
 use refusals::Check;
-use refusals::Outcome;
 ghost use mathlib.Core.Path.{_≡_};
 ghost use Prim.Native.Nat.{_≤_};
 ghost use lib.ListN.{length};
-ghost use Rattle.refusals.specs.Said.{checkSays, outcomeSays};
+ghost use Rattle.refusals.specs.Said.{checkSays};
 ghost use Rattle.memory.specs.Lists.{filled};
+ghost use Rattle.quantizers.specs.Lost.{lostBy, packingSays};
 ghost use Rattle.quantizers.specs.Says.{packedAt, bytesFor, quantizeRefusal, quantizeSays};
 
-// The bytes of the whole blocks of 32 readings, at the front of the output.
-fn quantize_blocks(target: Target, x: &[f32], out: &mut [u8])
+// The bytes of the whole blocks of 32 readings, at the front of the output, and what their scales lost.
+fn quantize_blocks(target: Target, x: &[f32], out: &mut [u8]) -> Lost
     requires { ⌜ bytesFor target (length (now x)) ≤ length (now out) ⌝ }
-    ensures { λ _. ⌜ now (out .exit)
-        ≡ filled (packedAt target (now (x .entry))) (now (out .entry)) (bytesFor target (length (now (x .entry)))) ⌝ }
+    ensures { λ r. ⌜ (r ≡ lostBy target (now (x .entry)))
+        × (now (out .exit)
+        ≡ filled (packedAt target (now (x .entry))) (now (out .entry)) (bytesFor target (length (now (x .entry))))) ⌝ }
 {
     let size = block_bytes(Format::Of32(format_of(target)));
-    let count = x.len() / 32;
+    let blocks = x.len() / 32;
+    let mut lost = Lost {
+        flushed: 0,
+        infinite: 0,
+    };
     let mut b: usize = 0;
-    while b < count {
+    while b < blocks {
         let from = b * 32;
         let to = from + 32;
         let at = b * size;
         let end = at + size;
-        quantize_block(target, &x[from..to], &mut out[at..end]);
+        let how = quantize_block(target, &x[from..to], &mut out[at..end]);
+        lost = count(lost, how);
         b += 1;
     }
+    lost
 }
 
 // Why a quantizer of n readings into `room` places refuses.
@@ -48,27 +58,26 @@ fn quantize_refusal(target: Target, n: usize, room: usize) -> Check
     Check::Passed
 }
 
-fn quantize(target: Target, x: &[f32], out: &mut [u8]) -> Outcome
-    ensures { λ r. ⌜ (outcomeSays r, now (out .exit)) ≡ quantizeSays target (now (x .entry)) (now (out .entry)) ⌝ }
+fn quantize(target: Target, x: &[f32], out: &mut [u8]) -> Packing
+    ensures { λ r. ⌜ (packingSays r, now (out .exit)) ≡ quantizeSays target (now (x .entry)) (now (out .entry)) ⌝ }
 {
     let checked = quantize_refusal(target, x.len(), out.len());
     if let Check::Refused(refusal) = checked {
-        return Outcome::Refused(refusal);
+        return Packing::Refused(refusal);
     }
-    quantize_blocks(target, x, out);
-    Outcome::Done
+    Packing::Packed(quantize_blocks(target, x, out))
 }
 
-// The readings as Q4_0 blocks. Refuses 6, 2 and 5, in this order.
-pub fn quantize_q4_0(x: &[f32], out: &mut [u8]) -> Outcome
-    ensures { λ r. ⌜ (outcomeSays r, now (out .exit)) ≡ quantizeSays Target.Q40 (now (x .entry)) (now (out .entry)) ⌝ }
+// The readings as Q4_0 blocks, and what their scales lost. Refuses 6, 2 and 5, in this order.
+pub fn quantize_q4_0(x: &[f32], out: &mut [u8]) -> Packing
+    ensures { λ r. ⌜ (packingSays r, now (out .exit)) ≡ quantizeSays Target.Q40 (now (x .entry)) (now (out .entry)) ⌝ }
 {
     quantize(Target::Q40, x, out)
 }
 
-// The readings as Q8_0 blocks. Refuses 6, 2 and 5, in this order.
-pub fn quantize_q8_0(x: &[f32], out: &mut [u8]) -> Outcome
-    ensures { λ r. ⌜ (outcomeSays r, now (out .exit)) ≡ quantizeSays Target.Q80 (now (x .entry)) (now (out .entry)) ⌝ }
+// The readings as Q8_0 blocks, and what their scales lost. Refuses 6, 2 and 5, in this order.
+pub fn quantize_q8_0(x: &[f32], out: &mut [u8]) -> Packing
+    ensures { λ r. ⌜ (packingSays r, now (out .exit)) ≡ quantizeSays Target.Q80 (now (x .entry)) (now (out .entry)) ⌝ }
 {
     quantize(Target::Q80, x, out)
 }

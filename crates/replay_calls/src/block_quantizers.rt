@@ -1,11 +1,12 @@
 // The block quantizers. A payload is how many places the output has and how many readings there are, the readings, the
-// number that says no, 0 where there is none, and what then stands in the output.
+// number that says no, 0 where there is none, how many blocks' scales were flushed and how many were sent to infinity, 0
+// where there is a number, and what then stands in the output.
+use quantizers::Lost;
+use quantizers::Packing;
 use quantizers::Target;
-use refusals::Outcome;
 use replay_answers::Finding;
 use replay_answers::read_floats;
 use replay_answers::same_bytes;
-use replay_answers::says;
 use replay_answers::u32_at;
 
 // The places of an output at most: two blocks of Q8_0, and one place more.
@@ -15,10 +16,20 @@ const STOOD: u8 = 0xEE;
 // The readings at most: two blocks, and one reading more.
 const READINGS: usize = 65;
 
-fn quantize(target: Target, data: &[f32], out: &mut [u8]) -> Outcome {
+fn quantize(target: Target, data: &[f32], out: &mut [u8]) -> Packing {
     match target {
         Target::Q40 => quantizers::quantize_q4_0(data, out),
         Target::Q80 => quantizers::quantize_q8_0(data, out),
+    }
+}
+
+// Whether a quantizer says this number or, where the number is 0, that so many scales were lost.
+fn says(ours: Packing, number: u32, lost: Lost) -> bool {
+    match ours {
+        Packing::Packed(counts) => {
+            number == 0 && counts.flushed == lost.flushed && counts.infinite == lost.infinite
+        }
+        Packing::Refused(refusal) => refusal.number == number,
     }
 }
 
@@ -29,13 +40,22 @@ fn judge_output(
     data: &mut [f32],
     out: &mut [u8],
     number: u32,
+    lost: Lost,
     left: &[u8],
 ) -> Finding {
     read_floats(bytes, data);
-    if !says(quantize(target, data, out), number) {
+    if !says(quantize(target, data, out), number, lost) {
         return Finding::Differs;
     }
     Finding::of_same(same_bytes(left, out))
+}
+
+// Two counts.
+fn read_lost(counts: &[u8]) -> Lost {
+    Lost {
+        flushed: u32_at(counts, 0) as usize,
+        infinite: u32_at(counts, 4) as usize,
+    }
 }
 
 fn judge_quantize(target: Target, payload: &[u8]) -> Finding {
@@ -48,11 +68,12 @@ fn judge_quantize(target: Target, payload: &[u8]) -> Finding {
         return Finding::Malformed;
     }
     let end = 8 + 4 * count;
-    let left = end + 4;
+    let left = end + 12;
     if payload.len() != left + room {
         return Finding::Malformed;
     }
     let number = u32_at(payload, end);
+    let lost = read_lost(&payload[end + 4..left]);
     let mut data = [0.0f32; READINGS];
     let mut out = [STOOD; ROOM];
     judge_output(
@@ -61,6 +82,7 @@ fn judge_quantize(target: Target, payload: &[u8]) -> Finding {
         &mut data[..count],
         &mut out[..room],
         number,
+        lost,
         &payload[left..],
     )
 }

@@ -8,7 +8,7 @@ use Rattle.bench_rows.proofs.rows.encodes.Tie as tie
 
 returns : tie.Need-returns
 unfolding judged meant answered sameNumbers answer every
-returns c = rw (c .f32-to-f16 .ensures)
+returns c = rw (c .before .f32-to-f16 .ensures)
 
 pub encodes-spec : {M : Type 1} → statement M
 encodes-spec = tie.close (tie.spec (λ c κs. search needs) returns)

@@ -1,11 +1,11 @@
 -- `block_quantizers::jambharrow_quantize_q8_0` meets its contract. Assumes nothing.
 use borrow.Author.Needs.{needs}
-use Rattle.exports.proofs.Handed.{handed}
+use Rattle.exports.proofs.Handed.{handed-lost}
 use Rattle.exports.proofs.block_quantizers.jambharrow_quantize_q8_0.Statement.{statement}
 use Rattle.exports.proofs.block_quantizers.jambharrow_quantize_q8_0.Tie as tie
 
 returns : tie.Need-returns
-returns c = handed _ _ _ _ (c .number-of .ensures) (c .before .before .before .quantize-q8-0 .ensures)
+returns c = handed-lost _ _ _ _ _ _ (c .number-and-lost .ensures) (c .before .before .before .before .quantize-q8-0 .ensures)
 
 pub jambharrow-quantize-q8-0-spec : {M : Type 1} → statement M
 jambharrow-quantize-q8-0-spec =

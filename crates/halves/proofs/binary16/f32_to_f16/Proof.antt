@@ -7,22 +7,25 @@ use Rattle.halves.specs.Binary16.{narrowed}
 use Rattle.halves.proofs.binary16.f32_to_f16.Statement.{statement}
 use Rattle.halves.proofs.binary16.f32_to_f16.Tie as tie
 
-mul-result : tie.Need-mul-result
-mul-result c = omega arith
+mul-half : tie.Need-mul-half
+mul-half c = omega arith
 
-add-result : tie.Need-add-result
-add-result c = omega arith
+add-half : tie.Need-add-half
+add-half c = omega arith
 
 returns : tie.Need-returns
 unfolding narrowed
-returns c = ap (λ (m : ℕ). c .before .args .bits / 2147483648 * 32768 + m) (c .narrowed-magnitude .ensures .0)
+returns c =
+    let s = c .before .before .args .bits / 2147483648 * 32768 in
+    cc (ap (λ (m : ℕ). s + m) (c .before .narrowed-magnitude .ensures .0))
 
 pub f32-to-f16-spec : {M : Type 1} → statement M
 f32-to-f16-spec =
     tie.close
     (tie.spec
     (λ c. omega arith)
-    mul-result
+    mul-half
     (λ c κs. search needs)
-    add-result
+    add-half
+    (λ c κs. search needs)
     returns)

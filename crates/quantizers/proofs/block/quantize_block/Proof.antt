@@ -3,13 +3,17 @@ use mathlib.Core.Path.{_≡_, refl, ap, _∙_}
 use Prim.Native.Nat.{ℕ, _+_, _-_, _/_, _%_}
 use mathlib.Core.List.{List, _++_}
 use lib.ListN.{length, set, take, drop, length-set}
+use lib.Ieee.{Float, binary32, toBits}
 use Rattle.memory.specs.Lists.{table}
 use Rattle.memory.proofs.Filled.{part-length}
 use native.Mathlib.Omega.{arith}
 use borrow.Author.Needs.{needs}
+use Rattle.halves.specs.How.{howNarrowed}
+use Rattle.halves.specs.declared.how.Narrowed.{Narrowed}
 use Rattle.layouts.specs.Formats.{bytes32}
 use Rattle.layouts.proofs.Sizes.{least-32}
-use Rattle.quantizers.specs.Blocks.{formatOf, byteAt}
+use Rattle.quantizers.specs.Blocks.{formatOf, storedScale, byteAt}
+use Rattle.quantizers.specs.Lost.{scaleFares}
 use Rattle.quantizers.specs.declared.target.Target.{Target}
 use Rattle.quantizers.specs.declared.target.Target.the-variants.{Q40, Q80}
 use Rattle.quantizers.proofs.Bytes.{written, block-left}
@@ -22,9 +26,18 @@ start m = m .before .before .before .before .before
 
 -- the output with the stored scale's two bytes
 abbrev scaled : tie.After-stored-scale → List ℕ
-scaled m = let half = m .stored-scale .result in set (set (start m .args .out .now) 0 (half % 256)) 1 (half / 256)
+scaled m = let half = m .stored-scale .result .bits in set (set (start m .args .out .now) 0 (half % 256)) 1 (half / 256)
 
--- the same with the quants of the target u behind them: a block of that target
+-- the stored scale's bits, and how it fares
+half-is : (m : tie.After-stored-scale) → m .stored-scale .result .bits ≡ storedScale (m .before .before .scale-of .result)
+unfolding storedScale
+half-is m = ap (λ (n : Narrowed). n .bits) (m .stored-scale .ensures)
+
+fares : (m : tie.After-stored-scale) → m .stored-scale .result .how ≡ scaleFares (start m .args .target) (start m .args .x .now)
+unfolding scaleFares
+fares m = ap (λ (n : Narrowed). n .how) (m .stored-scale .ensures) ∙ ap (λ (d : Float). howNarrowed (toBits binary32 d)) (m .before .before .scale-of .ensures)
+
+-- the output with the quants of the target u behind the scale: a block of that target
 behind : (m : tie.After-stored-scale) (u : Target) (size k : ℕ) (ys : List ℕ) → start m .args .target ≡ u → bytes32 (formatOf u) ≡ size → size ≡ 2 + k
     → ys ≡ table (written u (start m .args .x .now) (m .before .inverse-of .result)) k
     → (let a = start m .args in
@@ -33,7 +46,7 @@ behind : (m : tie.After-stored-scale) (u : Target) (size k : ℕ) (ys : List ℕ
 behind m u size k ys e Z S Y =
     let a = start m .args in
     let scale = m .before .before .scale-of in
-    block-left (a .target) u (a .x .now) (a .out .now) ys (m .stored-scale .result) size k (scale .result) (m .before .inverse-of .result) e (start m .pre .1) Z S (scale .ensures) (m .before .inverse-of .ensures) (m .stored-scale .ensures) Y
+    block-left (a .target) u (a .x .now) (a .out .now) ys (m .stored-scale .result .bits) size k (scale .result) (m .before .inverse-of .result) e (start m .pre .1) Z S (scale .ensures) (m .before .inverse-of .ensures) (half-is m) Y
 
 scale-of-requires : tie.Need-scale-of-requires
 scale-of-requires c κs = c .before .before .pre .0
@@ -81,13 +94,17 @@ same-length : tie.Need-same-length
 same-length c = behind (c .before .before .before .before .before .before) Q40 18 16 _ (c .before .before .before .before .enum-told .given .1) refl refl (c .before .before .write-quants-q4-0 .ensures) .1
 
 returns : tie.Need-returns
-returns c = behind (c .before .before .before .before .before .before) Q40 18 16 _ (c .before .before .before .before .enum-told .given .1) refl refl (c .before .before .write-quants-q4-0 .ensures) .0
+returns c =
+    let m = c .before .before .before .before .before .before in
+    (fares m, behind m Q40 18 16 _ (c .before .before .before .before .enum-told .given .1) refl refl (c .before .before .write-quants-q4-0 .ensures) .0)
 
 same-length-2 : tie.Need-same-length-2
 same-length-2 c = behind (c .before .before .before .before .before .before) Q80 34 32 _ (c .before .before .before .before .enum-told2 .given .1) refl refl (c .before .before .write-quants-q8-0 .ensures) .1
 
 returns-2 : tie.Need-returns-2
-returns-2 c = behind (c .before .before .before .before .before .before) Q80 34 32 _ (c .before .before .before .before .enum-told2 .given .1) refl refl (c .before .before .write-quants-q8-0 .ensures) .0
+returns-2 c =
+    let m = c .before .before .before .before .before .before in
+    (fares m, behind m Q80 34 32 _ (c .before .before .before .before .enum-told2 .given .1) refl refl (c .before .before .write-quants-q8-0 .ensures) .0)
 
 pub quantize-block-spec : {M : Type 1} → statement M
 quantize-block-spec =

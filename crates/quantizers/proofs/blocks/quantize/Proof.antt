@@ -1,10 +1,9 @@
 -- `blocks::quantize` meets its contract: a refusal, or every block quantised. Assumes nothing.
-use mathlib.Core.Path.{_≡_, ap, _∙_}
-use mathlib.Core.List.{List}
+use mathlib.Core.Path.{_≡_, sym, _∙_}
 use Prim.Native.Nat.{ℕ, _≤_}
 use borrow.Author.Tests.{ltb-false}
 use Rattle.refusals.specs.Said.{done}
-use Rattle.refusals.proofs.Laws.{given-passed, check-passed, refused-out, done-out}
+use Rattle.refusals.proofs.Laws.{given-passed, else-first, else-later, carried-value, carried-refused, check-passed, check-refused}
 use borrow.Author.Needs.{needs}
 use Rattle.quantizers.specs.Says.{bytesFor, quantizeRefusal, quantizeSays}
 use Rattle.quantizers.specs.declared.target.Target.{Target}
@@ -20,7 +19,7 @@ enum-known-checked c = search needs
 
 returns : tie.Need-returns
 unfolding quantizeSays
-returns c = refused-out _ _ (c .before .before .before .quantize-refusal .ensures) (c .before .checked .given .1)
+returns c = sym (carried-refused _ _ _ _ (else-first _ _ _ (check-refused (c .before .before .before .quantize-refusal .ensures) (c .before .checked .given .1))))
 
 enum-told : tie.Need-enum-told
 enum-told c = search needs
@@ -35,7 +34,8 @@ returns-2 : tie.Need-returns-2
 unfolding quantizeSays
 returns-2 c =
     let f = c .before .before .before .before in
-    ap (λ (left : List ℕ). (done, left)) (c .before .before .quantize-blocks .ensures) ∙ done-out _ _ (f .before .before .quantize-refusal .ensures) (f .enum-told .given .1)
+    let q = c .before .before .quantize-blocks .ensures in
+    cc (q .0, q .1) ∙ sym (carried-value _ _ _ _ (else-later _ _ (check-passed (f .before .before .quantize-refusal .ensures) (f .enum-told .given .1))))
 
 pub quantize-spec : {M : Type 1} → statement M
 quantize-spec =

@@ -11,25 +11,29 @@ use native.Mathlib.Omega.{arith}
 use borrow.Author.Needs.{needs}
 use Rattle.layouts.specs.Formats.{bytes32}
 use Rattle.quantizers.specs.Blocks.{formatOf, byteAt}
+use Rattle.quantizers.specs.Lost.{counted, scaleFares, lostIn}
 use Rattle.quantizers.specs.Says.{packedAt}
+use Rattle.quantizers.specs.declared.lost.Lost.{Lost}
 use Rattle.quantizers.proofs.Bytes.{placed}
+use Rattle.quantizers.proofs.Counts.{one-more, at-most}
 use Rattle.quantizers.proofs.blocks.quantize_blocks.Statement.{statement}
 use Rattle.quantizers.proofs.blocks.quantize_blocks.Tie as tie
 
 abbrev Inv-loop : tie.InvT-loop
-Inv-loop target x out₀ size count b₀ out b = InParts (packedAt target x) out₀ (λ k. k * size) count out b
+Inv-loop target x out₀ size blocks lost₀ b₀ out lost b = InParts (packedAt target x) out₀ (λ k. k * size) blocks out b × (lost ≡ lostIn target x b)
 
 abbrev μ-loop : tie.MeasureT-loop
-μ-loop target x out₀ size count b₀ out b = count - b
+μ-loop target x out₀ size blocks lost₀ b₀ out lost b = blocks - b
 
 -- the size is that of the target's format
 size-is : (c : tie.After-block-bytes Inv-loop μ-loop) → c .block-bytes .result ≡ bytes32 (formatOf (c .before .before .before .before .args .target))
 size-is c = c .block-bytes .ensures ∙ ap bytes32 (c .before .format-of .ensures)
 
 loop-holds : tie.Need-loop-holds Inv-loop μ-loop
+unfolding lostIn
 loop-holds c =
     let a = c .before .before .before .before .args in
-    parts-none (packedAt (a .target) (a .x .now)) (a .out .now) (λ k. k * c .block-bytes .result) _ (zero-mul _)
+    (parts-none (packedAt (a .target) (a .x .now)) (a .out .now) (λ k. k * c .block-bytes .result) _ (zero-mul _), refl)
 
 -- block b's readings lie within the readings, its bytes lie within the output, and there are fewer blocks than readings
 facts : (c : tie.In-loop Inv-loop μ-loop)
@@ -81,32 +85,43 @@ quantize-block-requires c κs =
     let l = d .before .loop in
     let size = d .before .before .block-bytes in
     let k = facts d in
-    let room : l .b * size .result + size .result ≤ length (l .out) = omega (arith, k .1, l .inv .2) in (
+    let room : l .b * size .result + size .result ≤ length (l .out) = omega (arith, k .1, l .inv .0 .2) in (
       part-length (d .before .before .before .before .before .before .args .x .now) (l .b * 32) 32 (l .b * 32 + 32) refl (k .0),
       part-length (l .out) (l .b * size .result) (size .result) (l .b * size .result + size .result) refl room ∙ size-is (d .before .before),
     )
 
+-- there are fewer blocks than a count holds
+count-requires : tie.Need-count-requires Inv-loop μ-loop
+count-requires c κs =
+    let d = c .before .before .before .before .before in
+    let l = d .before .loop in
+    let a = d .before .before .before .before .before .before .args in
+    rw (l .inv .1) (omega (arith, at-most (a .target) (a .x .now) (l .b), facts d .2))
+
 add-b : tie.Need-add-b Inv-loop μ-loop
-add-b c = omega (arith, c .before .before .before .before .before .loop-test .taken, facts (c .before .before .before .before .before) .2)
+add-b c = let d = c .before .before .before .before .before .before in omega (arith, d .loop-test .taken, facts d .2)
 
 loop-less : tie.Need-loop-less Inv-loop μ-loop
-loop-less c = omega (arith, c .before .before .before .before .before .loop-test .taken)
+loop-less c = omega (arith, c .before .before .before .before .before .before .loop-test .taken)
 
 loop-again : tie.Need-loop-again Inv-loop μ-loop
 loop-again c =
-    let d = c .before .before .before .before .before in
+    let d = c .before .before .before .before .before .before in
     let l = d .before .loop in
+    let q = c .before .before .before .quantize-block .ensures in
     let t = d .before .before .before .before .before .before in
     let u = t .args .target in
     let xs = t .args .x .now in
     let size = d .before .before .block-bytes .result in
     let S = size-is (d .before .before) in
     let b = l .b in
-    let g = byteAt u (take (b * 32 + 32 - b * 32) (drop (b * 32) xs)) in
-    parts-more (packedAt u xs) (t .args .out .now) (λ k. k * size) (length xs / 32) g (l .out) _ b size (d .loop-test .taken) (rw add-one (suc-mul b size)) (facts d .1) (c .before .before .quantize-block .ensures ∙ ap (table g) (sym S)) (λ i h. placed u xs b i size S h) (l .inv)
+    let g = byteAt u (take (b * 32 + 32 - b * 32) (drop (b * 32) xs)) in (
+      parts-more (packedAt u xs) (t .args .out .now) (λ k. k * size) (length xs / 32) g (l .out) _ b size (d .loop-test .taken) (rw add-one (suc-mul b size)) (facts d .1) (q .1 ∙ ap (table g) (sym S)) (λ i h. placed u xs b i size S h) (l .inv .0),
+      c .count .ensures ∙ ap (counted (l .lost)) (q .0) ∙ ap (λ (n : Lost). counted n (scaleFares u (take (b * 32 + 32 - b * 32) (drop (b * 32) xs)))) (l .inv .1) ∙ one-more u xs b,
+    )
 
 same-length : tie.Need-same-length Inv-loop μ-loop
-same-length c = c .before .loop .inv .2
+same-length c = c .before .loop .inv .0 .2
 
 returns : tie.Need-returns Inv-loop μ-loop
 returns c =
@@ -115,7 +130,10 @@ returns c =
     let u = t .args .target in
     let xs = t .args .x .now in
     let size = c .before .before .block-bytes in
-    parts-done (packedAt u xs) (t .args .out .now) (λ k. k * size .result) (length xs / 32) (l .out) (l .b) (c .loop-test .left) (l .inv) ∙ ap (filled (packedAt u xs) (t .args .out .now)) (rw (size-is (c .before .before)))
+    let all : l .b ≡ length xs / 32 = omega (arith, c .loop-test .left, l .inv .0 .1) in (
+      l .inv .1 ∙ ap (lostIn u xs) all,
+      parts-done (packedAt u xs) (t .args .out .now) (λ k. k * size .result) (length xs / 32) (l .out) (l .b) (c .loop-test .left) (l .inv .0) ∙ ap (filled (packedAt u xs) (t .args .out .now)) (rw (size-is (c .before .before))),
+    )
 
 pub quantize-blocks-spec : {M : Type 1} → statement M
 quantize-blocks-spec =
@@ -138,6 +156,7 @@ quantize-blocks-spec =
     part-quantize-block-start-2
     part-quantize-block-end-2
     quantize-block-requires
+    count-requires
     add-b
     loop-less
     loop-again

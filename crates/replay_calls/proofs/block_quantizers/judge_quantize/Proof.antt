@@ -22,6 +22,9 @@ returns-3 c = tt
 u32-at-requires-3 : tie.Need-u32-at-requires-3
 u32-at-requires-3 c κs = tt
 
+read-lost-requires : tie.Need-read-lost-requires
+read-lost-requires c κs = tt
+
 slice-aggregate-judge-output : tie.Need-slice-aggregate-judge-output
 slice-aggregate-judge-output c = simp length-take (omega arith)
 
@@ -50,6 +53,11 @@ judge-quantize-spec =
     (λ c. omega arith)
     returns-3
     u32-at-requires-3
+    (λ c. omega arith)
+    (λ c. omega arith)
+    (λ c. omega arith)
+    (λ c. omega arith)
+    read-lost-requires
     (λ c. omega arith)
     (λ c. omega arith)
     (λ c. omega arith)
