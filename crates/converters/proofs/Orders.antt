@@ -3,12 +3,9 @@ use Prim.{Unit}
 use mathlib.Core.Path.{_≡_, refl, sym, ap, _∙_, subst}
 use mathlib.Core.Bool.{Bool, true, false}
 use Prim.Native.Nat.{ℕ, zero, suc, _+_, _-_, _*_, _/_, _%_, _≤_, _<_}
-use native.Mathlib.Nat.{div-add-mod', div-lt-iff-lt-mul}
 use native.Mathlib.Omega.{arith}
 use mathlib.Core.List.{List, _++_}
 use lib.Dec.{ltb, lit<}
-use lib.IntN.{ℤ, pos, _-ℤ_}
-use lib.Ieee.{Float}
 use lib.ListN.{length, getD, take, drop}
 use borrow.Author.Tests.{ltb-true, ltb-false, le-ltb}
 use lib.Seq.{take-at, ext-getD}

@@ -6,10 +6,11 @@ use lib.ListN.{length, getD, set, take, drop, length-set}
 use Rattle.memory.specs.Lists.{table}
 use native.Mathlib.Omega.{arith}
 use borrow.Author.Needs.{needs}
+use Rattle.layouts.proofs.Written.{block-long, block-written}
 use Rattle.converters.specs.Orders.{movedByte, convertedByte}
 use Rattle.converters.specs.declared.direction.Direction.{Direction}
 use Rattle.converters.specs.declared.direction.Direction.the-variants.{ToGgml, FromGgml}
-use Rattle.converters.proofs.Moved.{block-left, left-long}
+use Rattle.converters.proofs.Moved.{behind-scale}
 use Rattle.converters.proofs.block.convert_block.Statement.{statement}
 use Rattle.converters.proofs.block.convert_block.Tie as tie
 
@@ -26,12 +27,13 @@ scaled t = let bs = t .args .block .now in set (set (t .args .out .now) 0 (getD 
 -- the same after the arm of the direction u that the code was told of
 by : (u : Direction) (t : tie.Start) {ys : List ℕ} → t .args .direction ≡ u → ys ≡ table (movedByte u (t .args .block .now)) 16
     → take 2 (scaled t) ++ (ys ++ drop (18 - 2) (drop 2 (scaled t))) ≡ table (convertedByte (t .args .direction) (t .args .block .now)) 18
+unfolding convertedByte
 by u t e Y =
     let bs = t .args .block .now in
-    block-left u bs (t .args .out .now) _ _ (t .pre .1) refl refl _ Y ∙ ap (λ (d : Direction). table (convertedByte d bs) 18) (sym e)
+    block-written 18 16 refl (convertedByte u bs) (movedByte u bs) (t .args .out .now) _ _ _ (t .pre .1) refl refl Y (behind-scale u bs) ∙ ap (λ (d : Direction). table (convertedByte d bs) 18) (sym e)
 
 long : (t : tie.Start) (g : ℕ → ℕ) {ys : List ℕ} → ys ≡ table g 16 → length (take 2 (scaled t) ++ (ys ++ drop (18 - 2) (drop 2 (scaled t)))) ≡ length (t .args .out .now)
-long t g {ys} Y = left-long g (scaled t) ys (simp length-set (t .pre .1)) Y ∙ sym (t .pre .1)
+long t g {ys} Y = block-long 18 16 refl g (scaled t) ys (simp length-set (t .pre .1)) Y ∙ sym (t .pre .1)
 
 same-length : tie.Need-same-length
 same-length c = long (c .before .before .before .before .before .before .before .before .before .before) _ (c .before .before .move-apart .ensures)

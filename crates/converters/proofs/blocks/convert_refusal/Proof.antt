@@ -1,7 +1,6 @@
 -- `blocks::convert_refusal` meets its contract: the checks in their order. Assumes nothing.
 use borrow.Author.Tests.{lt-ltb, le-ltb, eq-eqb, ne-eqb}
 use Rattle.refusals.specs.Refusals.{given}
-use native.Mathlib.Omega.{arith}
 use Rattle.converters.specs.Says.{convertRefusal}
 use Rattle.converters.proofs.blocks.convert_refusal.Statement.{statement}
 use Rattle.converters.proofs.blocks.convert_refusal.Tie as tie
