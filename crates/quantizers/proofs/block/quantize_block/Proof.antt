@@ -15,18 +15,22 @@ use Rattle.layouts.proofs.Sizes.{least-32}
 use Rattle.quantizers.specs.Blocks.{formatOf, storedScale, byteAt}
 use Rattle.quantizers.specs.Lost.{scaleFares}
 use Rattle.quantizers.specs.declared.target.Target.{Target}
-use Rattle.quantizers.specs.declared.target.Target.the-variants.{Q40, Q80}
+use Rattle.quantizers.specs.declared.target.Target.the-variants.{Q40, Q40Ggml, Q80}
 use Rattle.quantizers.proofs.Bytes.{written, block-left}
 use Rattle.quantizers.proofs.block.quantize_block.Statement.{statement}
 use Rattle.quantizers.proofs.block.quantize_block.Tie as tie
 
--- what stands behind the two arms: the scale, its inverse and the stored scale are known
+-- what stands behind the arms: the scale, its inverse and the stored scale are known
 abbrev start : tie.After-stored-scale → tie.Start
 start m = m .before .before .before .before .before
 
 -- the output with the stored scale's two bytes
 abbrev scaled : tie.After-stored-scale → List ℕ
 scaled m = let half = m .stored-scale .result .bits in set (set (start m .args .out .now) 0 (half % 256)) 1 (half / 256)
+
+-- it is as long as a block of the target u that the code was told of
+long : (m : tie.After-stored-scale) (u : Target) → start m .args .target ≡ u → length (scaled m) ≡ bytes32 (formatOf u)
+long m u e = simp length-set (start m .pre .1 ∙ ap (λ (v : Target). bytes32 (formatOf v)) e)
 
 -- the stored scale's bits, and how it fares
 half-is : (m : tie.After-stored-scale) → m .stored-scale .result .bits ≡ storedScale (m .before .before .scale-of .result)
@@ -73,22 +77,28 @@ enum-told : tie.Need-enum-told
 enum-told c = search needs
 
 part-write-quants-q4-0-end : tie.Need-part-write-quants-q4-0-end
-part-write-quants-q4-0-end c = simp length-set (omega (arith, start (c .before .before) .pre .1 ∙ ap (λ (v : Target). bytes32 (formatOf v)) (c .enum-told .given .1)))
+part-write-quants-q4-0-end c = omega (arith, long (c .before .before) Q40 (c .enum-told .given .1))
 
 write-quants-q4-0-requires : tie.Need-write-quants-q4-0-requires
 write-quants-q4-0-requires c κs =
     let m = c .before .before .before in
-    let size : length (start m .args .out .now) ≡ 18 = start m .pre .1 ∙ ap (λ (v : Target). bytes32 (formatOf v)) (c .before .enum-told .given .1) in
-    (start m .pre .0, part-length (scaled m) 2 16 18 refl (simp length-set (omega arith)))
+    (start m .pre .0, part-length (scaled m) 2 16 18 refl (omega (arith, long m Q40 (c .before .enum-told .given .1))))
+
+part-write-quants-q4-0-ggml-end : tie.Need-part-write-quants-q4-0-ggml-end
+part-write-quants-q4-0-ggml-end c = omega (arith, long (c .before .before) Q40Ggml (c .enum-told2 .given .1))
+
+write-quants-q4-0-ggml-requires : tie.Need-write-quants-q4-0-ggml-requires
+write-quants-q4-0-ggml-requires c κs =
+    let m = c .before .before .before in
+    (start m .pre .0, part-length (scaled m) 2 16 18 refl (omega (arith, long m Q40Ggml (c .before .enum-told2 .given .1))))
 
 part-write-quants-q8-0-end : tie.Need-part-write-quants-q8-0-end
-part-write-quants-q8-0-end c = simp length-set (omega (arith, start (c .before .before) .pre .1 ∙ ap (λ (v : Target). bytes32 (formatOf v)) (c .enum-told2 .given .1)))
+part-write-quants-q8-0-end c = omega (arith, long (c .before .before) Q80 (c .enum-told3 .given .1))
 
 write-quants-q8-0-requires : tie.Need-write-quants-q8-0-requires
 write-quants-q8-0-requires c κs =
     let m = c .before .before .before in
-    let size : length (start m .args .out .now) ≡ 34 = start m .pre .1 ∙ ap (λ (v : Target). bytes32 (formatOf v)) (c .before .enum-told2 .given .1) in
-    (start m .pre .0, part-length (scaled m) 2 32 34 refl (simp length-set (omega arith)))
+    (start m .pre .0, part-length (scaled m) 2 32 34 refl (omega (arith, long m Q80 (c .before .enum-told3 .given .1))))
 
 same-length : tie.Need-same-length
 same-length c = behind (c .before .before .before .before .before .before) Q40 18 16 _ (c .before .before .before .before .enum-told .given .1) refl refl (c .before .before .write-quants-q4-0 .ensures) .1
@@ -99,12 +109,20 @@ returns c =
     (fares m, behind m Q40 18 16 _ (c .before .before .before .before .enum-told .given .1) refl refl (c .before .before .write-quants-q4-0 .ensures) .0)
 
 same-length-2 : tie.Need-same-length-2
-same-length-2 c = behind (c .before .before .before .before .before .before) Q80 34 32 _ (c .before .before .before .before .enum-told2 .given .1) refl refl (c .before .before .write-quants-q8-0 .ensures) .1
+same-length-2 c = behind (c .before .before .before .before .before .before) Q40Ggml 18 16 _ (c .before .before .before .before .enum-told2 .given .1) refl refl (c .before .before .write-quants-q4-0-ggml .ensures) .1
 
 returns-2 : tie.Need-returns-2
 returns-2 c =
     let m = c .before .before .before .before .before .before in
-    (fares m, behind m Q80 34 32 _ (c .before .before .before .before .enum-told2 .given .1) refl refl (c .before .before .write-quants-q8-0 .ensures) .0)
+    (fares m, behind m Q40Ggml 18 16 _ (c .before .before .before .before .enum-told2 .given .1) refl refl (c .before .before .write-quants-q4-0-ggml .ensures) .0)
+
+same-length-3 : tie.Need-same-length-3
+same-length-3 c = behind (c .before .before .before .before .before .before) Q80 34 32 _ (c .before .before .before .before .enum-told3 .given .1) refl refl (c .before .before .write-quants-q8-0 .ensures) .1
+
+returns-3 : tie.Need-returns-3
+returns-3 c =
+    let m = c .before .before .before .before .before .before in
+    (fares m, behind m Q80 34 32 _ (c .before .before .before .before .enum-told3 .given .1) refl refl (c .before .before .write-quants-q8-0 .ensures) .0)
 
 pub quantize-block-spec : {M : Type 1} → statement M
 quantize-block-spec =
@@ -125,9 +143,16 @@ quantize-block-spec =
     (λ c. search needs)
     (λ c. omega arith)
     (λ c. omega arith)
+    part-write-quants-q4-0-ggml-end
+    write-quants-q4-0-ggml-requires
+    (λ c. search needs)
+    (λ c. omega arith)
+    (λ c. omega arith)
     part-write-quants-q8-0-end
     write-quants-q8-0-requires
     same-length
     returns
     same-length-2
-    returns-2)
+    returns-2
+    same-length-3
+    returns-3)
