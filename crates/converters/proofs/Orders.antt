@@ -41,12 +41,12 @@ back ToGgml = FromGgml
 back FromGgml = ToGgml
 
 -- the nibble at place j, in the order that a converter reads
-abbrev nibbleRead : Direction → List ℕ → ℕ → ℕ
+abbrev pub nibbleRead : Direction → List ℕ → ℕ → ℕ
 nibbleRead ToGgml bs j = nibbleBeside bs 2 j
 nibbleRead FromGgml bs j = nibbleApart bs 2 j
 
 -- what holds of both halves of 32 places, or of both neighbours of 16 pairs, holds of them all
-by-halves : (P : ℕ → Type 0) → ((k : ℕ) → k < 16 → P k × P (k + 16)) → (j : ℕ) → j < 32 → P j
+pub by-halves : (P : ℕ → Type 0) → ((k : ℕ) → k < 16 → P k × P (k + 16)) → (j : ℕ) → j < 32 → P j
 by-halves P both j h = go (ltb j 16) refl
   where
     go : (t : Bool) → ltb j 16 ≡ t → P j
@@ -56,7 +56,7 @@ by-halves P both j h = go (ltb j 16) refl
         let k : j - 16 + 16 ≡ j = omega arith in
         subst P k (both (j - 16) (omega arith) .1)
 
-by-neighbours : (P : ℕ → Type 0) → ((k : ℕ) → k < 16 → P (2 * k) × P (2 * k + 1)) → (j : ℕ) → j < 32 → P j
+pub by-neighbours : (P : ℕ → Type 0) → ((k : ℕ) → k < 16 → P (2 * k) × P (2 * k + 1)) → (j : ℕ) → j < 32 → P j
 by-neighbours P both j h = go (j % 2) refl
   where
     go : (t : ℕ) → t ≡ j % 2 → P j
@@ -190,18 +190,29 @@ lets-through n out room e h =
     let torn = given-passed _ _ _ _ (large .1) in
     given-no _ _ _ (large .0) ∙ given-no _ _ _ (torn .0) ∙ given-no _ _ _ (le-ltb _ _ h)
 
--- a converter that is done, and the other one over what it wrote: its output begins with the first bytes
-pub restores : (d : Direction) (bs out left room : List ℕ) → ((i : ℕ) → getD bs i 0 < 256) → convertSays d bs out ≡ (done, left) → length bs ≤ length room
-    → convertSays (back d) (take (length bs) left) room ≡ (done, bs ++ drop (length bs) room)
+-- a converter whose checks pass converts
+pub converts : (d : Direction) (bs room : List ℕ) → convertRefusal (length bs) (length room) ≡ done → convertSays d bs room ≡ (done, converted d bs ++ drop (length bs) room)
 unfolding convertSays
-restores d bs out left room bytes e h =
+converts d bs room passed = carried-value (convertRefusal (length bs) (length room)) (filled (convertedAt d bs) room (length bs)) room _ passed
+
+-- of one that is done they passed, and its output begins with the converted bytes
+pub was-done : (d : Direction) (bs out left : List ℕ) → convertSays d bs out ≡ (done, left) → (convertRefusal (length bs) (length out) ≡ done) × (take (length bs) left ≡ converted d bs)
+unfolding convertSays
+was-done d bs out left e =
     let n = length bs in
     let passed : convertRefusal n (length out) ≡ done = sym (carried-said (convertRefusal n (length out)) (filled (convertedAt d bs) out n) out) ∙ ap (λ (p : Said (Unit {0}) × List ℕ). p .0) e in
+    let wrote : left ≡ converted d bs ++ drop n out = ap (λ (p : Said (Unit {0}) × List ℕ). p .1) (sym e ∙ converts d bs out passed) in
+    (passed, ap (take n) wrote ∙ take-at (converted d bs) (drop n out) n (length-table (convertedAt d bs) n))
+
+-- (a) a converter that is done, and the other one over what it wrote: its output begins with the first bytes
+pub restores : (d : Direction) (bs out left room : List ℕ) → ((i : ℕ) → getD bs i 0 < 256) → convertSays d bs out ≡ (done, left) → length bs ≤ length room
+    → convertSays (back d) (take (length bs) left) room ≡ (done, bs ++ drop (length bs) room)
+restores d bs out left room bytes e h =
+    let n = length bs in
+    let was = was-done d bs out left e in
     let size : length (converted d bs) ≡ n = length-table (convertedAt d bs) n in
-    let wrote : left ≡ converted d bs ++ drop n out = ap (λ (p : Said (Unit {0}) × List ℕ). p .1) (sym e ∙ carried-value (convertRefusal n (length out)) (filled (convertedAt d bs) out n) out _ passed) in
-    let read : take n left ≡ converted d bs = ap (take n) wrote ∙ take-at (converted d bs) (drop n out) n size in
-    let there = there-and-back bs bytes (whole-and-room n (length out) passed .0) d in
-    ap (λ (cs : List ℕ). convertSays (back d) cs room) read
-    ∙ carried-value (convertRefusal (length (converted d bs)) (length room)) (filled (convertedAt (back d) (converted d bs)) room (length (converted d bs))) room _ (ap (λ (k : ℕ). convertRefusal k (length room)) size ∙ lets-through n (length out) (length room) passed h)
+    let passed = ap (λ (k : ℕ). convertRefusal k (length room)) size ∙ lets-through n (length out) (length room) (was .0) h in
+    ap (λ (cs : List ℕ). convertSays (back d) cs room) (was .1)
+    ∙ converts (back d) (converted d bs) room passed
     ∙ ap (λ (k : ℕ). (done, converted (back d) (converted d bs) ++ drop k room)) size
-    ∙ ap (λ (cs : List ℕ). (done, cs ++ drop n room)) there
+    ∙ ap (λ (cs : List ℕ). (done, cs ++ drop n room)) (there-and-back bs bytes (whole-and-room n (length out) (was .0) .0) d)

@@ -16,7 +16,7 @@ use Rattle.quantizers.specs.Says.{packedAt}
 use Rattle.quantizers.specs.declared.target.Target.{Target}
 use Rattle.quantizers.specs.declared.target.Target.the-variants.{Q40, Q40Ggml, Q80}
 
-after-scale : (t : Target) (xs : List Float) (l : ℕ) → quantByte t xs l ≡ byteAt t xs (2 + l)
+pub after-scale : (t : Target) (xs : List Float) (l : ℕ) → quantByte t xs l ≡ byteAt t xs (2 + l)
 unfolding byteAt
 after-scale t xs l = let e : 2 + l ≡ suc (suc l) = omega arith in rw e
 
