@@ -31,7 +31,7 @@ infinite-half h e =
 
 -- ---- what goes in
 
--- the multiple that a finite pattern stands for
+-- the multiple that a finite pattern stands for, which is 0 of the zeros alone
 abbrev number : ℕ → ℕ
 number b = cond (eqb (exponent32 b) 0) (b % 8388608) (multiple32 b)
 
@@ -89,7 +89,7 @@ module _ (b : ℕ) (w : b < 2 ^ 32) where
     unfolding keeps
     some = mul-pos (mul-pos (omega arith) (pow-pos (exponent32 b - 113))) (pow-pos 125)
 
-  -- so what holds of each of these holds of a narrowing
+  -- so what holds of each of these holds of what a narrowing is given and makes
   each : (P : (x y : Worth) → Type 0) → ((x : Worth) → P x (finite 0)) → ((x : Worth) → P x infinite) → ((m n : ℕ) → 0 < n → n ≤ m → P (finite m) (finite n))
       → P (worth32 b) (worth16 (narrowed b))
   each P zero large kept = by (leb (exponent32 b) 112) (leb 143 (exponent32 b)) refl refl
@@ -129,6 +129,7 @@ was-kept m n p h = by (eqb n m) (eqb n 0) refl refl
     by false true e f = let z : n ≡ 0 = eqb-true _ _ f in absurd (omega arith)
     by false false e f = (omega (arith, eqb-false n m e), λ g. eqb-false n 0 f (cc))
 
+-- Document 02 holds of what the narrowing is said to be ..
 pub was : (b : ℕ) → b < 2 ^ 32 → Was (howNarrowed b) (worth32 b) (worth16 (narrowed b))
 unfolding howNarrowed
 was b w = each b w (λ x y. Was (howFrom x y) x y) was-zero was-infinite was-kept
@@ -146,20 +147,18 @@ one-of-four SentToInfinity (finite m) y n h = rw (h .0)
 one-of-four SentToInfinity infinite y n h = absurd (h .1 refl)
 one-of-four SentToInfinity no-number y n h = rw (h .0)
 one-of-four Cut (finite m) (finite k) n h = rw (ne-eqb k m (λ e. omega (arith, h .0)), ne-eqb k 0 (λ e. h .1 (ap finite e)))
-one-of-four Cut (finite m) infinite n h = absurd (h .0)
-one-of-four Cut (finite m) no-number n h = absurd (h .0)
 one-of-four Cut infinite (finite k) n h = absurd (h .0)
-one-of-four Cut infinite infinite n h = absurd (h .0)
-one-of-four Cut infinite no-number n h = absurd (h .0)
 one-of-four Cut no-number (finite k) n h = absurd (h .0)
-one-of-four Cut no-number infinite n h = absurd (h .0)
-one-of-four Cut no-number no-number n h = absurd (h .0)
+one-of-four Cut x infinite n h = absurd (h .0)
+one-of-four Cut x no-number n h = absurd (h .0)
 
+-- no half that is made is a NaN
 half-has-worth : (b : ℕ) → b < 2 ^ 32 → worth16 (narrowed b) ≡ no-number → ⊥
 half-has-worth b w =
     each b w (λ x y. y ≡ no-number → ⊥)
     (λ x e. let z : _≡_ {A = ℕ} 0 1 = cc in omega arith) (λ x e. let z : _≡_ {A = ℕ} 0 1 = cc in omega arith) (λ m n p h e. let z : _≡_ {A = ℕ} 0 1 = cc in omega arith)
 
+-- .. and of no other of the four
 pub only-one : (b : ℕ) (h : How) → b < 2 ^ 32 → Was h (worth32 b) (worth16 (narrowed b)) → h ≡ howNarrowed b
 unfolding howNarrowed
 only-one b h w e = one-of-four h (worth32 b) (worth16 (narrowed b)) (half-has-worth b w) e

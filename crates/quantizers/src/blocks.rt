@@ -58,6 +58,7 @@ fn quantize_refusal(target: Target, n: usize, room: usize) -> Check
     Check::Passed
 }
 
+// The readings as blocks of a target, and what their scales lost, or why not.
 fn quantize(target: Target, x: &[f32], out: &mut [u8]) -> Packing
     ensures { λ r. ⌜ (packingSays r, now (out .exit)) ≡ quantizeSays target (now (x .entry)) (now (out .entry)) ⌝ }
 {

@@ -1,4 +1,4 @@
--- `blocks::quantize_blocks` meets its contract: in turn b block b is quantised into its own places. Assumes nothing.
+-- `blocks::quantize_blocks` meets its contract: in turn b block b is quantised into its own places, and its scale is counted. Assumes nothing.
 use mathlib.Core.Path.{_≡_, refl, sym, ap, _∙_}
 use Prim.Native.Nat.{_+_, _-_, _*_, _/_, _≤_, _<_}
 use native.Mathlib.Nat.{zero-mul, suc-mul}
