@@ -10,7 +10,7 @@ use Rattle.memory.specs.Lists.{table}
 use Rattle.numbers.specs.Fields.{byteOf}
 use Rattle.readings.specs.Readings.{inverse, quantQ8, quantQ40}
 use Rattle.layouts.specs.Formats.{bytes32}
-use Rattle.layouts.proofs.Written.{block-long, block-written}
+use Rattle.layouts.proofs.Written.{block-written}
 use Rattle.quantizers.specs.Blocks.{formatOf, scaleOf, storedScale, scaledReading, quantOf, nibbles, quantByte, byteAt}
 use Rattle.quantizers.specs.Says.{packedAt}
 use Rattle.quantizers.specs.declared.target.Target.{Target}
@@ -35,19 +35,16 @@ written-is Q80 xs k = after-scale Q80 xs k
 -- the scale's two bytes, and then those of the target u that the code was told of, by the scale d and the inverse that it computed
 pub block-left : (t u : Target) (xs : List Float) (out ys : List ℕ) (half size k : ℕ) (d inv : Float) → t ≡ u → length out ≡ bytes32 (formatOf t) → bytes32 (formatOf u) ≡ size → size ≡ 2 + k
     → d ≡ scaleOf t xs → inv ≡ inverse d → half ≡ storedScale d → ys ≡ table (written u xs inv) k
-    → (let o = set (set out 0 (half % 256)) 1 (half / 256) in
-    (take 2 o ++ (ys ++ drop (size - 2) (drop 2 o)) ≡ table (byteAt t xs) (bytes32 (formatOf t))) × (length (take 2 o ++ (ys ++ drop (size - 2) (drop 2 o))) ≡ length out))
+    → (let o = set (set out 0 (half % 256)) 1 (half / 256) in take 2 o ++ (ys ++ drop (size - 2) (drop 2 o)) ≡ table (byteAt t xs) (bytes32 (formatOf t)))
 unfolding byteAt
 block-left t u xs out ys half size k d inv e L Z S D I H Y =
     let scale : d ≡ scaleOf u xs = D ∙ ap (λ (v : Target). scaleOf v xs) e in
     let half-is : half ≡ storedScale (scaleOf u xs) = H ∙ ap storedScale scale in
     let by : (l : ℕ) → written u xs inv l ≡ byteAt u xs (2 + l) = λ l. ap (λ (i : Float). written u xs i l) (I ∙ ap inverse scale) ∙ written-is u xs l in
-    let long : length out ≡ size = L ∙ ap (λ (v : Target). bytes32 (formatOf v)) e ∙ Z in (
-      block-written size k S (byteAt u xs) (written u xs inv) out ys (half % 256) (half / 256) long (ap (λ (n : ℕ). n % 256) half-is) (ap (λ (n : ℕ). n / 256) half-is) Y by
-          ∙ ap (table (byteAt u xs)) (sym Z)
-          ∙ ap (λ (v : Target). table (byteAt v xs) (bytes32 (formatOf v))) (sym e),
-      block-long size k S (written u xs inv) (set (set out 0 (half % 256)) 1 (half / 256)) ys (simp length-set long) Y ∙ sym long,
-    )
+    let long : length out ≡ size = L ∙ ap (λ (v : Target). bytes32 (formatOf v)) e ∙ Z in
+    block-written size k S (byteAt u xs) (written u xs inv) out ys (half % 256) (half / 256) long (ap (λ (n : ℕ). n % 256) half-is) (ap (λ (n : ℕ). n / 256) half-is) Y by
+    ∙ ap (table (byteAt u xs)) (sym Z)
+    ∙ ap (λ (v : Target). table (byteAt v xs) (bytes32 (formatOf v))) (sym e)
 
 -- block b's byte at place l is the output's at place b * size + l
 pub placed : (t : Target) (xs : List Float) (b l size : ℕ) → size ≡ bytes32 (formatOf t) → l < size
