@@ -35,6 +35,12 @@
  * block, n / 256 rounded up for the dot of a row, and out_feat * (in_feat / 256) for a layer, a
  * piece and a run. Both are written where JAMBHARROW_WEIGHTS_SHORT is returned, and nowhere else.
  *
+ * What scales lost. A call that picks the scales of its blocks and stores them in binary16 has
+ * `lost` as its last parameter. lost[0] is how many scales were flushed to zero: those blocks
+ * decode to zeros. lost[1] is how many were sent to infinity: those blocks decode to infinities and
+ * NaN. Both are written where JAMBHARROW_DONE is returned, and nowhere else: a lost scale is no
+ * refusal, and its block has the bytes that quant.rs gives it.
+ *
  * NaN. Every other result has the bits that its contract says. Where a result is a NaN, the bits
  * may be those of any NaN.
  *
@@ -48,8 +54,8 @@
 
 /* The version of this interface: the major number is another where callers have to change, and the
  * minor one where there is more to call. */
-#define JAMBHARROW_VERSION_MAJOR 2
-#define JAMBHARROW_VERSION_MINOR 1
+#define JAMBHARROW_VERSION_MAJOR 3
+#define JAMBHARROW_VERSION_MINOR 0
 
 #ifdef __cplusplus
 extern "C" {
@@ -138,10 +144,23 @@ static inline const char *jambharrow_refusal_words(uint32_t number)
  * a NaN. */
 float jambharrow_f16_to_f32(uint16_t half);
 
+/* How a number fared when it was narrowed to a binary16. */
+enum jambharrow_how {
+    /* The half has its value, as zeros and infinities have. */
+    JAMBHARROW_EXACT = 0,
+    /* Digits that do not fit are gone. */
+    JAMBHARROW_CUT = 1,
+    /* It was not zero, and the half is. */
+    JAMBHARROW_FLUSHED = 2,
+    /* The half is an infinity, and it was a NaN or finite. */
+    JAMBHARROW_SENT_TO_INFINITY = 3
+};
+
 /* The bits of the binary16 that quant.rs makes of a binary32, whose bits are given, since only
  * there a NaN has a sign. Digits that do not fit are cut, a magnitude below 2^-14 becomes a signed
- * zero, and one too large an infinity of that sign; so does a NaN. */
-uint16_t jambharrow_f32_to_f16(uint32_t bits);
+ * zero, and one too large an infinity of that sign; so does a NaN. `how` becomes the number of
+ * enum jambharrow_how that says which of these it was; it is always written. */
+uint16_t jambharrow_f32_to_f16(uint32_t bits, uint32_t *how);
 
 /* Block decoders: packed blocks become floats.
  *
@@ -186,18 +205,24 @@ uint32_t jambharrow_dequantize_q6_k(const uint8_t *bytes, jambharrow_size bytes_
  *
  * Each writes the bytes of every block, in order, at the front of `out`, and keeps the places
  * behind them. The scale is stored by jambharrow_f32_to_f16, and readings are brought to integers
- * by the inverse of the scale before it is stored. It refuses, in this order, with
+ * by the inverse of the scale before it is stored. `lost` counts the blocks for whose scale that
+ * says JAMBHARROW_FLUSHED, and those for whose scale it says JAMBHARROW_SENT_TO_INFINITY. Each
+ * refuses, in this order, with
  *   JAMBHARROW_TOO_LARGE        more than JAMBHARROW_MOST_FLOATS readings;
  *   JAMBHARROW_NOT_A_MULTIPLE   a count of readings that is not a multiple of 32;
  *   JAMBHARROW_ROOM_SHORT       fewer places in `out` than the blocks have bytes. */
 
-/* Q4_0: 18 bytes to 32 readings. The scale is the first reading of largest magnitude over -8. */
+/* Q4_0: 18 bytes to 32 readings. The scale is the first reading of largest magnitude over -8. Where
+ * it is not zero it is flushed if that magnitude is below 2^-11; it is sent to infinity if that is
+ * finite and 2^19 or more. */
 uint32_t jambharrow_quantize_q4_0(const float *x, jambharrow_size x_len,
-                                  uint8_t *out, jambharrow_size out_len);
+                                  uint8_t *out, jambharrow_size out_len, jambharrow_size lost[2]);
 
-/* Q8_0: 34 bytes to 32 readings. The scale is the largest magnitude over 127. */
+/* Q8_0: 34 bytes to 32 readings. The scale is the largest magnitude over 127. Where it is not zero
+ * it is flushed if that magnitude is below 127 * 2^-14; it is sent to infinity if that is finite
+ * and 127 * 2^16 or more. */
 uint32_t jambharrow_quantize_q8_0(const float *x, jambharrow_size x_len,
-                                  uint8_t *out, jambharrow_size out_len);
+                                  uint8_t *out, jambharrow_size out_len, jambharrow_size lost[2]);
 
 /* Fixed-order sums: each adds in one order, so that a result has one set of bits.
  *

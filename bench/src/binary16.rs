@@ -1,6 +1,7 @@
 //! Binary16, over an array of inputs of one kind.
 use crate::calls::Call;
 use crate::measure::{Beside, Row, Size, Turn};
+use jambharrow::Narrowed;
 use oracle::ops::quant::reach;
 use oracle::random::Random;
 use std::hint::black_box;
@@ -25,6 +26,7 @@ extern "C" fn rust_f16_to_f32(half: u16) -> f32 {
     reach::f16_to_f32(half)
 }
 
+// The Rust's bits alone: it does not say how the number fared.
 extern "C" fn rust_f32_to_f16(bits: u32) -> u16 {
     reach::f32_to_f16(f32::from_bits(bits))
 }
@@ -52,7 +54,10 @@ fn rows_f32_to_f16() -> Vec<Row> {
         row(
             input,
             draw,
-            |bits| u32::from(jambharrow::f32_to_f16(f32::from_bits(bits))),
+            |bits| {
+                let Narrowed { bits, how } = jambharrow::f32_to_f16(f32::from_bits(bits));
+                u32::from(bits) ^ (how as u32) << 16
+            },
             move |bits| u32::from(rust(bits)),
         )
     };

@@ -1,7 +1,8 @@
-//! The block quantizers, over 256 readings, a row of the logger, and many.
+//! The block quantizers, over 256 readings, a row of the logger, and many. Ours count what scales
+//! lost, which the Rust does not.
 use crate::calls::Call;
 use crate::measure::{Beside, Row, Size};
-use jambharrow::Refusal;
+use jambharrow::{Lost, Refusal};
 use oracle::inputs::reading;
 use oracle::ops::quant;
 use oracle::random::Random;
@@ -25,7 +26,7 @@ const BAR: f64 = 0.7;
 
 fn rows(
     bytes: usize,
-    ours: impl Fn(&[f32], &mut [u8]) -> Result<(), Refusal> + Copy + 'static,
+    ours: impl Fn(&[f32], &mut [u8]) -> Result<Lost, Refusal> + Copy + 'static,
     rust: fn(&[f32]) -> oracle::error::Result<Vec<u8>>,
 ) -> Vec<Row> {
     let rust = black_box(rust);
@@ -42,7 +43,9 @@ fn rows(
             bar: (size != Size::Small).then_some(BAR),
             vector: None,
             ours: Box::new(move || {
-                ours(black_box(&data), black_box(&mut out)).expect("room for whole blocks");
+                let said = ours(black_box(&data), black_box(&mut out));
+                let Lost { flushed, infinite } = said.expect("room for whole blocks");
+                black_box([flushed, infinite]);
             }),
             beside: Beside::Rust(Box::new(move || {
                 black_box(rust(black_box(&theirs))).expect("whole blocks");

@@ -10,7 +10,8 @@ and the Rust through a pointer, so that each pays for one call. The Rust's block
 their values into a new vector, which is part of their time and cannot be taken out of them, as
 its block quantizers do with their bytes, its row dots with the sums of their chunks or blocks,
 and its `_cpu` layers with all of their weights; to make and to drop a decoder's vector, or such
-a layer's, takes the time in the column `vector`. Ours fill lent memory. The Rust has no Q5_K:
+a layer's, takes the time in the column `vector`. Ours fill lent memory, and say what was lost in
+binary16: `f32_to_f16` of its number, the block quantizers of their scales. The Rust has no Q5_K:
 beside these calls stands code of ours in the shape of its Q4_K (bench/src/q5_k.rs). It has no stepped
 layer: beside `piece` stands its dot of the same chunk, beside `run` over all pieces its layer in
 one go, beside `close` its tree over the same sums, and beside `open` nothing. Beside a layer by

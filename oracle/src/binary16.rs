@@ -1,8 +1,11 @@
-//! Binary16: both ways are compared on every pattern there is.
+//! Binary16: both ways are compared on every pattern there is. How a number fared is judged beside the
+//! Rust, which does not say it.
 use crate::calls::Call;
 use crate::compare::{Comparison, Difference};
 use crate::held::same;
+use crate::narrowing::judged;
 use crate::sample::Records;
+use jambharrow::{How, Narrowed};
 use oracle::ops::quant::reach;
 use oracle::random::Random;
 
@@ -38,14 +41,16 @@ fn compare_f32_to_f16(comparison: &mut Comparison) {
     comparison.cases("every bit pattern", 1 << 32, |number| {
         let f = f32::from_bits(number as u32);
         let rust = reach::f32_to_f16(f);
-        let ours = jambharrow::f32_to_f16(f);
-        if rust == ours {
+        let wanted = judged(f, rust);
+        let Narrowed { bits, how } = jambharrow::f32_to_f16(f);
+        if rust == bits && wanted == Some(how) {
             return Ok(1);
         }
+        let shown = |half: u16, how: Option<How>| format!("{half:04X}, {how:?}");
         Err(Difference {
             input: format!("{:08X}", f.to_bits()),
-            wanted: format!("{rust:04X}"),
-            ours: format!("{ours:04X}"),
+            wanted: shown(rust, wanted),
+            ours: shown(bits, Some(how)),
         })
     });
 }
@@ -75,11 +80,14 @@ fn sample_f16_to_f32(records: &mut Records) {
 }
 
 /// For each sign and exponent, digits around a step of the ten that are kept, at the bottom, in the
-/// middle and at the top; then patterns at random. The payload is the pattern and the half.
+/// middle and at the top; then patterns at random. The payload is the pattern, the half, and how the
+/// number fared, as C has it.
 fn sample_f32_to_f16(records: &mut Records) {
     let mut store = |bits: u32| {
-        let answer = reach::f32_to_f16(f32::from_bits(bits));
-        records.push(&[&bits.to_le_bytes(), &answer.to_le_bytes()]);
+        let f = f32::from_bits(bits);
+        let answer = reach::f32_to_f16(f);
+        let how = judged(f, answer).expect("it is one of the four");
+        records.push(&[&bits.to_le_bytes(), &answer.to_le_bytes(), &[how as u8]]);
     };
     let digits = [
         0, 1, 0x1FFF, 0x2000, 0x2001, 0x3F_FFFF, 0x40_0000, 0x7F_DFFF, 0x7F_E000, 0x7F_FFFF,

@@ -8,6 +8,7 @@ use oracle::random::Random;
 /// A format, and how the other side decodes its blocks and has the fused dot of a row: the Rust, and
 /// for Q5_K, which the Rust does not have, the reference.
 pub struct Format {
+    pub name: &'static str,
     pub byte: u8,
     pub layout: Layout,
     pub decode: fn(&[u8]) -> Result<Vec<f32>>,
@@ -16,18 +17,21 @@ pub struct Format {
 
 pub static FORMATS: [Format; 3] = [
     Format {
+        name: "Q4_K",
         byte: 4,
         layout: inputs::Q4_K,
         decode: quant::dequantize_q4_k,
         fused_row_dot: quant::canonical_dot_q4k_fused,
     },
     Format {
+        name: "Q5_K",
         byte: 5,
         layout: inputs::Q5_K,
         decode: q5_k::dequantize,
         fused_row_dot: q5_k::fused_row_dot,
     },
     Format {
+        name: "Q6_K",
         byte: 6,
         layout: inputs::Q6_K,
         decode: quant::dequantize_q6_k,

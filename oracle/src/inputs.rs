@@ -155,6 +155,37 @@ pub fn row(random: &mut Random, len: usize) -> Vec<f32> {
     row
 }
 
+/// The kinds of a block's largest magnitude: zero; so small that no scale comes of it, or hardly one;
+/// tiny; about where a scale is flushed to zero; a reading's; about where one is sent to infinity;
+/// huge; and an infinity.
+const SWINGS: [Draw<f32>; 8] = [
+    |random| float(random, 0x0000_0000, 0x0000_0000),
+    |random| float(random, 0x0000_0001, 0x0000_007F),
+    |random| float(random, 0x0000_0080, 0x397F_FFFF),
+    |random| float(random, 0x3980_0000, 0x3C7F_FFFF),
+    reading,
+    |random| float(random, 0x4880_0000, 0x4B7F_FFFF),
+    |random| float(random, 0x4B80_0000, 0x7F7F_FFFF),
+    |random| float(random, 0x7F80_0000, 0x7F80_0000),
+];
+
+/// So many blocks of 32 readings, each with a swing of its own: its readings are parts of a largest
+/// one, which stands at some place of it, and in every eighth block there is a NaN.
+pub fn swings(random: &mut Random, blocks: usize) -> Vec<f32> {
+    let mut readings = Vec::with_capacity(32 * blocks);
+    for _ in 0..blocks {
+        let swing = SWINGS[random.below(SWINGS.len())](random);
+        let part = |random: &mut Random| random.below(1 << 24) as f32 / 8_388_608.0 - 1.0;
+        let mut block: [f32; 32] = std::array::from_fn(|_| swing * part(random));
+        if random.below(8) == 0 {
+            block[random.below(32)] = f32::NAN;
+        }
+        block[random.below(32)] = swing;
+        readings.extend(block);
+    }
+    readings
+}
+
 /// Two rows of a length. In a quarter of them every other product is the one before it, by one
 /// distance of the lanes and the tree, with the other sign.
 pub fn rows(random: &mut Random, len: usize) -> (Vec<f32>, Vec<f32>) {

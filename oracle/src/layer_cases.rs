@@ -2,6 +2,7 @@
 use crate::layers::{Kind, Layer};
 use jambharrow::{MOST_BATCH, MOST_IN, MOST_OUT};
 use oracle::inputs::Layout;
+use oracle::random::Random;
 
 #[derive(Debug, Clone, Copy)]
 pub struct Sizes {
@@ -88,6 +89,19 @@ pub fn groups(layer: &Layer) -> Vec<(&'static str, Vec<Asked>)> {
         ));
     }
     groups
+}
+
+/// How many layers of few blocks are compared: they take little time, so that there are many.
+pub const OF_FEW_BLOCKS: u64 = 10_000_000;
+
+/// A layer of one or two rows of one or two blocks, of any kind of weights.
+pub fn of_few_blocks(layer: &Layer, random: &mut Random) -> Asked {
+    let sizes = sizes(
+        1 + random.below(2),
+        layer.layout.values * (1 + random.below(2)),
+        1 + random.below(2),
+    );
+    exact(layer, sizes, WEIGHTS[random.below(WEIGHTS.len())])
 }
 
 /// Whether a row may begin inside a block.

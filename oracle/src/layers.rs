@@ -61,6 +61,11 @@ impl Layer {
             }
             self.cases(comparison, what, &decided);
         }
+        let few = layer_cases::OF_FEW_BLOCKS;
+        comparison.cases("layers of few blocks", few, |number| {
+            let asked = layer_cases::of_few_blocks(self, &mut Random::new(!number));
+            self.case(number, asked)
+        });
         let [panics, unchecked] = alone;
         let hook = panic::take_hook();
         panic::set_hook(Box::new(|_| {}));

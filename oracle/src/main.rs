@@ -1,6 +1,7 @@
 //! Holds Jambharrow to the Rust, call by call, and the program `fillin` to the Rust's row dots; stores
 //! a sample of the Rust's answers and the record files of the gate. The Rust has no Q5_K: there the
-//! other side is a reference by the published layout (`q5_k`).
+//! other side is a reference by the published layout (`q5_k`). Nor does it say what a scale lost: that
+//! is judged by values (`narrowing`).
 mod activation_blocks;
 mod binary16;
 mod block_counts;
@@ -19,6 +20,7 @@ mod layer_cases;
 mod layers;
 mod linear_layers;
 mod month;
+mod narrowing;
 mod options;
 mod q5_k;
 mod record_cases;

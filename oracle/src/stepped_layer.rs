@@ -3,7 +3,7 @@
 //! reference of Q5_K.
 use crate::calls::Call;
 use crate::compare::{Compared, Comparison, Difference};
-use crate::formats::any_format;
+use crate::formats::{any_format, FORMATS};
 use crate::held::{self, same, Place};
 use crate::sample::{count, floats, Records};
 use crate::stepped_model::{chunks, layout, needs, refusal, Input, Lengths, SteppedCall, Work};
@@ -23,6 +23,9 @@ pub const STEPPED: Call = Call {
 const HISTORIES: u64 = 1 << 17;
 const CALLS: usize = 32;
 
+/// How many histories of short rows are played in each format: they take little time.
+const SHORT_HISTORIES: u64 = 1 << 20;
+
 /// in_feat of a layer: none, blocks, a chunk, and blocks more; a few layers have the most instead.
 const IN_FEATS: [usize; 6] = [0, 256, 512, 8_192, 8_448, 16_640];
 /// out_feat of a layer at most.
@@ -33,12 +36,24 @@ const WEIGHT_SCALES: [Draw<u16>; 4] = [trained_scale, trained_scale, SCALES[2], 
 
 fn compare(comparison: &mut Comparison) {
     comparison.cases("histories of one layer", HISTORIES, |number| {
-        play(&mut Random::new(number), false)
+        let random = &mut Random::new(number);
+        let layer = any_layer(random);
+        play(random, layer, false)
     });
     let what = "histories with calls of other layers and marks that others set";
     comparison.cases(what, HISTORIES, |number| {
-        play(&mut Random::new(number), true)
+        let random = &mut Random::new(number);
+        let layer = any_layer(random);
+        play(random, layer, true)
     });
+    for format in &FORMATS {
+        let what = format!("histories of short rows in {}", format.name);
+        comparison.cases(&what, SHORT_HISTORIES, |number| {
+            let random = &mut Random::new(number);
+            let layer = layer_of_short_rows(random, format.byte);
+            play(random, layer, false)
+        });
+    }
     let what = "each call with each set of reasons to refuse";
     comparison.cases(what, 4 << Reasons::COUNT, |number| {
         refuse(&mut Random::new(number), number)
@@ -99,8 +114,7 @@ fn sample(records: &mut Records) {
 
 /// A history of one layer. With `others`, some calls are of another layer, and at times a mark
 /// changes between two calls.
-fn play(random: &mut Random, others: bool) -> Compared {
-    let layer = any_layer(random);
+fn play(random: &mut Random, layer: Layer, others: bool) -> Compared {
     History::of(random, layer, |random, history| {
         let mut values = 0;
         if random.below(8) > 0 {
@@ -159,6 +173,19 @@ fn any_layer(random: &mut Random) -> Layer {
         format: any_format(random),
         in_feat,
         out_feat: random.below(ROWS + 1),
+    }
+}
+
+/// A layer of a few rows of one or two blocks; one in 64 has a row of two chunks instead.
+fn layer_of_short_rows(random: &mut Random, format: u8) -> Layer {
+    let in_feat = match random.below(64) {
+        0 => 8_448,
+        _ => 256 * (1 + random.below(2)),
+    };
+    Layer {
+        format,
+        in_feat,
+        out_feat: 1 + random.below(3),
     }
 }
 

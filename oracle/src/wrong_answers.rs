@@ -20,12 +20,15 @@ pub struct WrongAnswer {
 
 impl WrongAnswer {
     /// The record's payload with the part's last number changed by a bit: of a float it is the
-    /// lowest bit of the exponent, so that no NaN stays one.
+    /// lowest bit of the exponent, so that no NaN stays one, and of a byte alone the lowest, so that
+    /// it is another of the four.
     pub fn payload(&self, records: &Records) -> Vec<u8> {
         let mut parts = records.payloads[self.record].clone();
-        let part = &mut parts[self.part];
-        let at = part.len() - 2;
-        part[at] ^= 0x80;
+        match parts[self.part].as_mut_slice() {
+            [byte] => *byte ^= 1,
+            [.., changed, _] => *changed ^= 0x80,
+            [] => panic!("a part of an answer has a number"),
+        }
         if let Some(untouched) = self.untouched {
             let floats = parts[untouched].len() / 4;
             parts[untouched] = STOOD.to_le_bytes().repeat(floats);
@@ -54,9 +57,14 @@ const fn refused(call: &'static str, record: usize, part: usize, untouched: usiz
 }
 
 pub static FAMILIES: [Family; 8] = [
+    // A float; a half, and how the number fared.
     Family {
         name: "binary16",
-        answers: &[wrong("f16_to_f32", 0, 1), wrong("f32_to_f16", 0, 1)],
+        answers: &[
+            wrong("f16_to_f32", 0, 1),
+            wrong("f32_to_f16", 0, 1),
+            wrong("f32_to_f16", 0, 2),
+        ],
     },
     // The number that says no, and the output.
     Family {
@@ -78,10 +86,14 @@ pub static FAMILIES: [Family; 8] = [
             wrong("canonical_combine", 1, 3),
         ],
     },
-    // The number, and the output.
+    // The number, the counts, and the output.
     Family {
         name: "block quantizers",
-        answers: &[wrong("quantize_q4_0", 0, 3), wrong("quantize_q4_0", 0, 4)],
+        answers: &[
+            wrong("quantize_q4_0", 0, 3),
+            wrong("quantize_q4_0", 0, 4),
+            wrong("quantize_q4_0", 0, 5),
+        ],
     },
     // A block's number, its scale, a quant and a sum; a dot's number, and its value.
     Family {

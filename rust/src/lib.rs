@@ -5,6 +5,7 @@
 //! A function has the name and the parameters of the one of quant.rs that it answers for; where
 //! that returns a vector, it fills memory that is lent to it, where that decodes a layer's weights
 //! into a vector, it takes scratch for a row of them, and where it can refuse, it says why.
+//! [`f32_to_f16`] and the block quantizers say beside their bits what was lost in binary16.
 //! Where a result is a NaN, its bits may be those of any NaN; every other result has the bits of
 //! quant.rs, within the sizes below. quant.rs has no Q5_K: the functions of that format are named
 //! after those of Q4_K, and have their formulas and order of operations.
@@ -25,12 +26,12 @@ pub use activation_blocks::{
     dot_q4k_q8_block, dot_q5k_q8_block, dot_q6k_q8_block, integer_dot_q4k, integer_dot_q5k,
     quantize_block_q8, quantize_block_q8_into, Q8Block,
 };
-pub use binary16::{f16_to_f32, f32_to_f16};
+pub use binary16::{f16_to_f32, f32_to_f16, How, Narrowed};
 pub use block_decoders::{
     dequantize_q4_0, dequantize_q4_k, dequantize_q5_0, dequantize_q5_k, dequantize_q6_k,
     dequantize_q8_0,
 };
-pub use block_quantizers::{quantize_q4_0, quantize_q8_0};
+pub use block_quantizers::{quantize_q4_0, quantize_q8_0, Lost};
 pub use fixed_order_sums::{
     canonical_chunk, canonical_combine, canonical_dot_pub, canonical_sum_pub,
 };

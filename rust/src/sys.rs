@@ -8,8 +8,8 @@ pub type Size = u64;
 /// A block decoder.
 pub type Decoder = unsafe extern "C" fn(*const u8, Size, *mut f32, Size) -> u32;
 
-/// A block quantizer.
-pub type Quantizer = unsafe extern "C" fn(*const f32, Size, *mut u8, Size) -> u32;
+/// A block quantizer. Last is the place of the two counts of lost scales.
+pub type Quantizer = unsafe extern "C" fn(*const f32, Size, *mut u8, Size, *mut [Size; 2]) -> u32;
 
 /// The dot of a packed block and an activation block, whose parts are its scale, its quants and its
 /// sums. Last are the places of the value and of the two counts of blocks.
@@ -60,7 +60,7 @@ pub type CpuLayer = unsafe extern "C" fn(
 
 unsafe extern "C" {
     pub safe fn jambharrow_f16_to_f32(half: u16) -> f32;
-    pub safe fn jambharrow_f32_to_f16(bits: u32) -> u16;
+    pub fn jambharrow_f32_to_f16(bits: u32, how: *mut u32) -> u16;
 
     pub fn jambharrow_dequantize_q4_0(
         bytes: *const u8,
@@ -99,10 +99,20 @@ unsafe extern "C" {
         out_len: Size,
     ) -> u32;
 
-    pub fn jambharrow_quantize_q4_0(x: *const f32, x_len: Size, out: *mut u8, out_len: Size)
-        -> u32;
-    pub fn jambharrow_quantize_q8_0(x: *const f32, x_len: Size, out: *mut u8, out_len: Size)
-        -> u32;
+    pub fn jambharrow_quantize_q4_0(
+        x: *const f32,
+        x_len: Size,
+        out: *mut u8,
+        out_len: Size,
+        lost: *mut [Size; 2],
+    ) -> u32;
+    pub fn jambharrow_quantize_q8_0(
+        x: *const f32,
+        x_len: Size,
+        out: *mut u8,
+        out_len: Size,
+        lost: *mut [Size; 2],
+    ) -> u32;
 
     pub fn jambharrow_canonical_chunk(
         x: *const f32,

@@ -1,5 +1,9 @@
-//! The counts that docs/FIRMWARE.md tells short weights by: those of a layer of 4,096 to 16 in Q4_K.
-use jambharrow::{canonical_dot_q4k_fused, linear_q4_k_fused, Blocks, Layer, Refusal};
+//! What docs/FIRMWARE.md tells by counts: short weights, by those of a layer of 4,096 to 16 in Q4_K, and
+//! lost scales.
+use jambharrow::{
+    canonical_dot_q4k_fused, dequantize_q4_0, dequantize_q8_0, linear_q4_k_fused, quantize_q4_0,
+    quantize_q8_0, Blocks, Layer, Lost, Refusal,
+};
 
 const LAYER: Layer = Layer {
     format: Layer::Q4_K,
@@ -46,4 +50,68 @@ fn a_row_says_its_own_counts_and_a_torn_block_first() {
     assert_eq!(row(8 * 144), Err(short(8, 16)));
     assert_eq!(row(8 * 144 + 1), Err(Refusal::NotWholeBlocks));
     assert_eq!(row(16 * 144), Ok(0.0));
+}
+
+/// What each quantizer lost of a block, and what its bytes decode to.
+fn packed(readings: &[f32; 32]) -> [(Lost, [f32; 32]); 2] {
+    let (mut q4_0, mut q8_0) = ([0; 18], [0; 34]);
+    let (mut of_q4_0, mut of_q8_0) = ([7.0; 32], [7.0; 32]);
+    let lost = [
+        quantize_q4_0(readings, &mut q4_0).expect("room for a block"),
+        quantize_q8_0(readings, &mut q8_0).expect("room for a block"),
+    ];
+    dequantize_q4_0(&q4_0, &mut of_q4_0).expect("a whole block");
+    dequantize_q8_0(&q8_0, &mut of_q8_0).expect("a whole block");
+    [(lost[0], of_q4_0), (lost[1], of_q8_0)]
+}
+
+/// A block that goes up and down by a swing.
+fn swinging(swing: f32) -> [f32; 32] {
+    std::array::from_fn(|place| [swing, -swing][place % 2])
+}
+
+const FLUSHED: Lost = Lost {
+    flushed: 1,
+    infinite: 0,
+};
+const SENT_TO_INFINITY: Lost = Lost {
+    flushed: 0,
+    infinite: 1,
+};
+
+#[test]
+fn tiny_swings_decode_to_zeros_and_are_kept_in_a_finer_unit() {
+    let night = swinging(0.0004);
+    assert_eq!(packed(&night), [(FLUSHED, [0.0; 32]); 2]);
+    for (lost, decoded) in packed(&night.map(|reading| reading * 1_024.0)) {
+        assert_eq!(lost, Lost::default());
+        for (reading, decoded) in night.iter().zip(decoded) {
+            // On one side a nibble goes no further than 7 eighths, and the scale's digits are cut.
+            assert!((reading - decoded / 1_024.0).abs() < 0.0004 / 7.0);
+        }
+    }
+    let [of_q4_0, of_q8_0] = packed(&swinging(0.004));
+    assert_eq!(of_q4_0.0, Lost::default());
+    assert_eq!(of_q8_0, (FLUSHED, [0.0; 32]));
+}
+
+#[test]
+fn huge_readings_decode_to_infinities_and_nan() {
+    let mut readings = swinging(8_323_072.0);
+    readings[5] = 0.0;
+    for (lost, decoded) in packed(&readings) {
+        assert_eq!(lost, SENT_TO_INFINITY);
+        for (place, value) in decoded.into_iter().enumerate() {
+            assert_eq!(value.is_nan(), place == 5);
+            assert!(value.is_nan() || value.is_infinite());
+        }
+    }
+}
+
+#[test]
+fn a_swing_on_a_mean_goes_flat_by_rounding_and_no_count_tells() {
+    for (lost, decoded) in packed(&swinging(0.004).map(|reading| 3.0 + reading)) {
+        assert_eq!(lost, Lost::default());
+        assert_eq!(decoded, [decoded[0]; 32]);
+    }
 }

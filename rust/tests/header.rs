@@ -1,5 +1,6 @@
 //! The crate beside include/jambharrow.h: the same version, numbers, words and sizes.
-use jambharrow::{Layer, Refusal, MOST_BATCH, MOST_BYTES, MOST_FLOATS, MOST_IN, MOST_OUT};
+use jambharrow::{How, Layer, Refusal, MOST_BATCH, MOST_BYTES, MOST_FLOATS, MOST_IN, MOST_OUT};
+use std::fmt::Debug;
 
 const HEADER: &str = include_str!("../../include/jambharrow.h");
 
@@ -10,10 +11,10 @@ fn lines<'a>(begin: &'a str) -> impl Iterator<Item = &'static str> + 'a {
         .filter_map(move |line| line.trim().strip_prefix(begin))
 }
 
-/// The name that C has for a refusal, without what every name begins with: that of Rust in capitals,
-/// with a line between its words.
-fn c_name(refusal: Refusal) -> String {
-    let shown = format!("{refusal:?}");
+/// The name that C has for a case of an enum, without what every name begins with: that of Rust in
+/// capitals, with a line between its words.
+fn c_name(case: impl Debug) -> String {
+    let shown = format!("{case:?}");
     let name = shown.split('(').next().expect("a text has a first part");
     let mut words = String::new();
     for letter in name.chars() {
@@ -82,6 +83,13 @@ fn what_is_no_refusal_has_words_of_its_own() {
     for (name, words) in words() {
         assert!(!own.contains(&words), "{name}: {words}");
     }
+}
+
+#[test]
+fn hows_are_the_same() {
+    let ours = [How::Exact, How::Cut, How::Flushed, How::SentToInfinity];
+    let ours = ours.map(|how| (c_name(how), how as u32));
+    assert_eq!(numbers("jambharrow_how"), ours);
 }
 
 #[test]
