@@ -24,4 +24,5 @@ convertRefusal n room =
 
 -- every block in the other order at the front of the output, whose surplus places are kept
 unfoldable pub convertSays : Direction → List ℕ → List ℕ → Said (Unit {0}) × List ℕ
-convertSays d bs out = carriedOut (convertRefusal (length bs) (length out)) (filled (convertedAt d bs) out (length bs)) out
+convertSays d bs out =
+    carriedOut (convertRefusal (length bs) (length out)) (filled (convertedAt d bs) out (length bs)) out

@@ -18,11 +18,11 @@ formatOf Q40 = format.Q40
 formatOf Q40Ggml = format.Q40Ggml
 formatOf Q80 = format.Q80
 
--- the first value of largest magnitude over -8
+-- Q4_0's d: the first value of largest magnitude over -8
 abbrev pub scaleQ40 : List Float → Float
 scaleQ40 xs = div binary32 (largestValue xs 32) (ofBits binary32 0xc100_0000)
 
--- d. Q4_0 has one in either order. Q8_0: that of Q8.
+-- d. Q4_0: one for both of its orders. Q8_0: that of Q8.
 unfoldable pub scaleOf : Target → List Float → Float
 scaleOf Q40 xs = scaleQ40 xs
 scaleOf Q40Ggml xs = scaleQ40 xs
