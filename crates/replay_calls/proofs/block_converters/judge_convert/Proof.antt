@@ -40,7 +40,6 @@ judge-convert-spec =
     (λ c. omega arith)
     (λ c. omega arith)
     (λ c. omega arith)
-    (λ c. omega arith)
     returns-2
     u32-at-requires-3
     (λ c. omega arith)
