@@ -1,6 +1,6 @@
 /*
- * A file of Q4_0 blocks that came without word of its order, and some of its values, which are known
- * from elsewhere.
+ * Blocks of Q4_0 that came without word of their order, and their values, which are known from
+ * elsewhere.
  *
  * Nothing in the bytes says whether neighbours share a byte, or values that are 16 places apart. So
  * the blocks are decoded both ways and held to the known values, and then brought to the order that
