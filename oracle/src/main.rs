@@ -15,6 +15,7 @@ mod formats;
 mod fused_dots;
 mod gate_records;
 mod held;
+mod laws;
 mod layer_cases;
 mod layers;
 mod linear_layers;
