@@ -61,18 +61,17 @@ pub fn of_fused_layer(comparison: &mut Comparison, layer: &Layer) {
         let mut random = Random::new(number);
         let asked = layer_cases::of_few_blocks(layer, &mut random);
         let (x, w) = layer.inputs(&mut random, asked);
-        let outputs = |x: &[f32]| {
+        let filled = |x: &[f32]| {
             let mut y = held::memory(asked.lengths.places);
-            layer.ours(x, &w, &mut y, &mut [], asked.sizes).map(|()| y)
+            let said = layer.ours(x, &w, &mut y, &mut [], asked.sizes);
+            (said.map(|()| 0.0), y)
         };
-        let (said, other) = (outputs(&x), outputs(&negated(&x)));
+        let ((said, y), (other, z)) = (filled(&x), filled(&negated(&x)));
         let input = || format!("{asked:?}, case {number}");
-        match (&said, &other) {
-            (Ok(y), Ok(z)) => y.iter().zip(z).try_fold(0, |values, (&y, &z)| {
-                Ok(values + held_to(Ok(y), Ok(z), turned, input)?)
-            }),
-            _ => Err(differing(&said, &other, input())),
-        }
+        held_to(said, other, turned, input)?;
+        y.iter().zip(&z).try_fold(0, |values, (&y, &z)| {
+            Ok(values + held_to(Ok(y), Ok(z), turned, input)?)
+        })
     });
 }
 
@@ -123,15 +122,11 @@ fn held_to(
     if holds {
         return Ok(1);
     }
-    Err(differing(&said, &other, input()))
-}
-
-fn differing<T: std::fmt::Debug>(said: &T, other: &T, input: String) -> Difference {
-    Difference {
-        input,
-        wanted: format!("by the law of {said:?}"),
-        ours: format!("{other:?}"),
-    }
+    Err(Difference {
+        input: input(),
+        wanted: format!("by the law of {}", held::shown(said)),
+        ours: held::shown(other),
+    })
 }
 
 #[cfg(test)]
