@@ -13,7 +13,7 @@ const SHOWN: usize = 5;
 pub struct Difference {
     pub input: String,
     /// The other side's answer, which is the Rust's or that of the reference of Q5_K; where it has
-    /// none, document 01's.
+    /// none, document 01's; of a law, our answer that it goes by.
     pub wanted: String,
     pub ours: String,
 }
