@@ -13,7 +13,7 @@ const SHOWN: usize = 5;
 pub struct Difference {
     pub input: String,
     /// The other side's answer, which is the Rust's or a reference's; where it has none, the
-    /// documents'.
+    /// documents'; of a law, our answer that it goes by.
     pub wanted: String,
     pub ours: String,
 }

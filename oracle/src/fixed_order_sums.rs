@@ -2,6 +2,7 @@
 use crate::calls::Call;
 use crate::compare::{Compared, Comparison};
 use crate::held;
+use crate::laws;
 use crate::sample::{count, floats, Records};
 use jambharrow::{Refusal, MOST_FLOATS, MOST_IN};
 use oracle::inputs::{reading, row, rows};
@@ -22,7 +23,10 @@ pub const CANONICAL_COMBINE: Call = Call {
 
 pub const CANONICAL_DOT_PUB: Call = Call {
     name: "canonical_dot_pub",
-    compare: |comparison| compare_rows(comparison, dot_case),
+    compare: |comparison| {
+        compare_rows(comparison, dot_case);
+        laws::of_dot(comparison);
+    },
     sample: sample_canonical_dot_pub,
 };
 

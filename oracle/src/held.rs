@@ -28,10 +28,6 @@ pub fn value(
     if agree {
         return Ok(1);
     }
-    let shown = |answer: Result<f32, Refusal>| match answer {
-        Ok(value) => format!("{:08X}", value.to_bits()),
-        Err(refusal) => refused(refusal),
-    };
     Err(Difference {
         input: input(),
         wanted: shown(wanted),
@@ -55,6 +51,14 @@ pub fn outcome(
         wanted: shown(refusal),
         ours: shown(ours.err()),
     })
+}
+
+/// A value's bits, or a refusal.
+pub fn shown(answer: Result<f32, Refusal>) -> String {
+    match answer {
+        Ok(value) => format!("{:08X}", value.to_bits()),
+        Err(refusal) => refused(refusal),
+    }
 }
 
 /// A refusal's number, and what it says: of short weights that is the two counts.

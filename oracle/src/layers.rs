@@ -254,7 +254,8 @@ impl Layer {
         Ok(places)
     }
 
-    fn ours(
+    /// What ours says, with its outputs in `y`.
+    pub fn ours(
         &self,
         x: &[f32],
         w: &[u8],
@@ -304,7 +305,7 @@ impl Layer {
     }
 
     /// Readings, each row of them of a kind of its own, and weights.
-    fn inputs(&self, random: &mut Random, asked: Asked) -> (Vec<f32>, Vec<u8>) {
+    pub fn inputs(&self, random: &mut Random, asked: Asked) -> (Vec<f32>, Vec<u8>) {
         let Asked { sizes, lengths, .. } = asked;
         let mut x = Vec::new();
         if asked.weights == Weights::Worked {

@@ -1,5 +1,6 @@
 //! The layers.
 use crate::calls::Call;
+use crate::laws;
 use crate::layers::{Kind, Layer};
 use crate::{q4_0_ggml, q5_k};
 use oracle::inputs;
@@ -7,13 +8,19 @@ use oracle::ops::quant;
 
 pub const LINEAR_Q4_K_FUSED: Call = Call {
     name: "linear_q4_k_fused",
-    compare: |comparison| Q4_K_FUSED.compare(comparison),
+    compare: |comparison| {
+        Q4_K_FUSED.compare(comparison);
+        laws::of_fused_layer(comparison, &Q4_K_FUSED);
+    },
     sample: |records| Q4_K_FUSED.sample(records),
 };
 
 pub const LINEAR_Q6_K_FUSED: Call = Call {
     name: "linear_q6_k_fused",
-    compare: |comparison| Q6_K_FUSED.compare(comparison),
+    compare: |comparison| {
+        Q6_K_FUSED.compare(comparison);
+        laws::of_fused_layer(comparison, &Q6_K_FUSED);
+    },
     sample: |records| Q6_K_FUSED.sample(records),
 };
 
@@ -61,7 +68,10 @@ pub const LINEAR_Q4_0_CPU: Call = Call {
 
 pub const LINEAR_Q5_K_FUSED: Call = Call {
     name: "linear_q5_k_fused",
-    compare: |comparison| Q5_K_FUSED.compare(comparison),
+    compare: |comparison| {
+        Q5_K_FUSED.compare(comparison);
+        laws::of_fused_layer(comparison, &Q5_K_FUSED);
+    },
     sample: |records| Q5_K_FUSED.sample(records),
 };
 

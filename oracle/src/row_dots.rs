@@ -87,7 +87,7 @@ impl RowDot {
     }
 
     /// So many blocks, whose scales are of one kind.
-    fn weights(&self, random: &mut Random, blocks: usize) -> Vec<u8> {
+    pub fn weights(&self, random: &mut Random, blocks: usize) -> Vec<u8> {
         let scale = ROW_SCALES[random.below(ROW_SCALES.len())];
         self.layout.blocks(random, blocks, scale)
     }

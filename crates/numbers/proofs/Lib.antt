@@ -2,3 +2,4 @@
 pub mod Unique
 pub mod Signed
 pub mod Halves
+pub mod FloatLaws

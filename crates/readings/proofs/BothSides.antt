@@ -12,9 +12,10 @@ use lib.Ieee.Bits.{is-true}
 use lib.Ieee.Fits.{down-pos}
 use lib.Ieee.Order.{le-of-values}
 use Rattle.numbers.specs.Steps.{nought, truncated}
+use Rattle.numbers.proofs.FloatLaws.{neg-round}
 use Rattle.readings.specs.Readings.{held, quantQ8}
 use Rattle.readings.proofs.Held.{capped, held-pos}
-use Rattle.readings.proofs.Signs.{plus, plus-round, neg-round}
+use Rattle.readings.proofs.Signs.{plus, plus-round}
 
 -- ---- a float and its negation as whole numbers, the same but for the ends of the range
 
@@ -97,6 +98,6 @@ below (fin true m e) h =
     let some : 0 < m * up e = omega (arith, ltb-true 0 (m * up e * 1 + 0 * down e) h, zero-mul (down e)) in
     let x = round binary32 false (m * up e * 2 + 1 * down e) (down e * 2) in
     rule (fin true m e) false (negative m e some)
-    ∙ ap (λ (y : Float). held (negsuc 126) (pos 127) (truncated y)) (neg-round binary32 (m * up e * 2 + 1 * down e) (down e * 2))
+    ∙ ap (λ (y : Float). held (negsuc 126) (pos 127) (truncated y)) (neg-round binary32 false (m * up e * 2 + 1 * down e) (down e * 2))
     ∙ turned x (plus-round binary32 (m * up e * 2 + 1 * down e) (down e * 2))
 below (fin false m e) h = absurd (omega (arith, ltb-true (m * up e * 1) (0 * down e) h, zero-mul (down e)))

@@ -1,9 +1,8 @@
--- The sign of what is rounded: plus stays plus, and minus is the negation of plus. Assumes nothing.
-use mathlib.Core.Path.{_≡_, refl}
+-- The sign of what is rounded: plus stays plus. Assumes nothing.
 use mathlib.Core.Bool.{Bool, true, false, not, cond}
 use Prim.Native.Nat.{ℕ, zero, suc, _*_, _^_}
 use lib.Dec.{T, ltb}
-use lib.Ieee.{Float, nan, inf, fin, Format, prec, low, odd, units, round, neg}
+use lib.Ieee.{Float, nan, inf, fin, Format, prec, low, odd, units, round}
 use lib.Ieee.Fits.{round-is}
 use lib.Ieee.Scale.{overflow}
 
@@ -28,19 +27,3 @@ plus-units f q k = plus-cond (ltb (q * 2 ^ k) (overflow f)) (odd (suc (prec f)) 
 
 pub plus-round : (f : Format) (a c : ℕ) → T (plus (round f false a c))
 plus-round f a c = rw (round-is f false a c) (plus-units f _ _)
-
-neg-cond : (t : Bool) (x y : Float) → cond t (neg x) (neg y) ≡ neg (cond t x y)
-neg-cond true x y = refl
-neg-cond false x y = refl
-
-neg-odd : (d q k l : ℕ) → odd d true q k l ≡ neg (odd d false q k l)
-unfolding odd neg
-neg-odd d zero k l = refl
-neg-odd d (suc q) k l = refl
-
-neg-units : (f : Format) (q k : ℕ) → units f true q k ≡ neg (units f false q k)
-unfolding units neg
-neg-units f q k = rw (neg-odd (suc (prec f)) q k (low f)) (neg-cond (ltb (q * 2 ^ k) (overflow f)) (odd (suc (prec f)) false q k (low f)) (inf false))
-
-pub neg-round : (f : Format) (a c : ℕ) → round f true a c ≡ neg (round f false a c)
-neg-round f a c = rw (round-is f true a c, round-is f false a c) (neg-units f _ _)

@@ -1,0 +1,2 @@
+-- Two laws of the fixed-order dot.
+pub mod Laws
