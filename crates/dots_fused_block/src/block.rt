@@ -9,19 +9,35 @@ ghost use Rattle.layouts.specs.Formats.{bytesK};
 ghost use Rattle.sums_lanes.specs.Lanes.{lanesFrom};
 ghost use Rattle.dots_fused_block.specs.Terms.{terms};
 
-// The lanes `l` after the 256 terms of a block. The formats with minimums share one call, as their decoder's.
+// The lanes `l` after the 256 terms of a block. Formats with minimums share one worker, called in each one's branch.
+// Scales and minimums come before whole numbers, which then need not wait in memory for their calls.
 pub fn add_block(format: FormatK, l: [f32; 8], x: &[f32], block: &[u8]) -> [f32; 8]
     requires { ⌜ (length (now x) ≡ 256) × (length (now block) ≡ bytesK format) ⌝ }
     ensures { λ r. ⌜ r ≡ lanesFrom l (terms format (now (x .entry)) (now (block .entry))) 256 ⌝ }
 {
     match format {
         FormatK::Q4K | FormatK::Q5K => {
-            let q = if let FormatK::Q5K = format {
-                k_layouts::quants_q5k(block)
+            let scales = k_layouts::scales_q4k(block);
+            let minimums = k_layouts::minimums_q4k(block);
+            let mut out = l;
+            if let FormatK::Q5K = format {
+                add_sub_blocks(
+                    &mut out,
+                    x,
+                    &k_layouts::quants_q5k(block),
+                    &scales,
+                    &minimums,
+                );
             } else {
-                k_layouts::quants_q4k(block)
-            };
-            add_sub_blocks(l, x, block, &q)
+                add_sub_blocks(
+                    &mut out,
+                    x,
+                    &k_layouts::quants_q4k(block),
+                    &scales,
+                    &minimums,
+                );
+            }
+            out
         }
         FormatK::Q6K => {
             let q = k_layouts::quants_q6k(block);

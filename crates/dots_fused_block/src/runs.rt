@@ -1,4 +1,5 @@
-// A Q6_K block: sixteen runs of 16, each with a scale of its own. Laid out and added up as sub-blocks are.
+// A Q6_K block: sixteen runs of 16, each with a scale of its own. Whole numbers and products are laid out before the
+// loop, and the lanes go by value, eight terms at a time, so that each step is on vectors.
 use layouts::FormatK;
 ghost use mathlib.Core.Path.{_≡_};
 ghost use lib.IntN.{pos};

@@ -17,12 +17,13 @@ ghost use Rattle.dots_activation.specs.Blocks.{SmallSums};
 ghost use Rattle.dots_integer.specs.Inner.{FiveBits, productAt, laneAt, LanesWithin};
 ghost use Rattle.dots_integer.specs.Dots.{weighedAt, minimumSum};
 
-// A quant of at most five bits times an activation quant and another times another, in 16 bits.
+// A quant of at most five bits times an activation quant and another times another, in 16 bits. Both are widened as
+// signed bytes: aarch64 multiplies such in one step, where it would widen an unsigned byte of unknown size first.
 fn two_products(a: u8, x: i8, b: u8, y: i8) -> i16
     requires { ⌜ (a < 32) × (b < 32) ⌝ }
     ensures { λ r. ⌜ (r ≡ pos a *ℤ x +ℤ pos b *ℤ y) × Within 7936 r ⌝ }
 {
-    a as i16 * x as i16 + b as i16 * y as i16
+    a as i8 as i16 * x as i16 + b as i8 as i16 * y as i16
 }
 
 // One quant times another.
