@@ -8,8 +8,10 @@
  * How a call is written. A call has the name of the function of quant.rs that it answers for,
  * behind `jambharrow_`, and its parameters in that function's order. quant.rs has no stepped layer,
  * whose four calls are jambharrow_open, _piece, _run and _close, and no Q5_K, whose calls are named
- * after those of Q4_K and take the same parameters. A slice is a pointer and, right behind it, how
- * many elements it has. Sizes and counts are jambharrow_size, of 64 bits on every processor.
+ * after those of Q4_K and take the same parameters. Nor has it Q4_0 in GGML's order, whose calls
+ * are named after those of Q4_0, with `_ggml`, and take the same parameters, nor converters between
+ * the two orders. A slice is a pointer and, right behind it, how many elements it has. Sizes and
+ * counts are jambharrow_size, of 64 bits on every processor.
  *
  * What a pointer is. A slice's pointer may be null where its number of elements is 0; every other
  * pointer is to the one value or the array that its type says, and may not be null. A pointer is
@@ -55,7 +57,7 @@
 /* The version of this interface: the major number is another where callers have to change, and the
  * minor one where there is more to call. */
 #define JAMBHARROW_VERSION_MAJOR 3
-#define JAMBHARROW_VERSION_MINOR 0
+#define JAMBHARROW_VERSION_MINOR 1
 
 #ifdef __cplusplus
 extern "C" {
@@ -135,7 +137,7 @@ static inline const char *jambharrow_refusal_words(uint32_t number)
 #define JAMBHARROW_MOST_BATCH 1024
 /* Floats at most, where a quantizer or canonical_chunk is given them. */
 #define JAMBHARROW_MOST_FLOATS 131072
-/* Bytes at most, where a block decoder is given them. */
+/* Bytes at most, where a block decoder or a converter is given them. */
 #define JAMBHARROW_MOST_BYTES 16777216
 
 /* Binary16, in which every packed block keeps its scales. */
@@ -171,9 +173,17 @@ uint16_t jambharrow_f32_to_f16(uint32_t bits, uint32_t *how);
  *   JAMBHARROW_ROOM_SHORT         fewer places in `out` than the blocks have values.
  * s, d and dmin are the block's scales, each a binary16 widened by jambharrow_f16_to_f32. */
 
-/* Q4_0: a block is 18 bytes, s and 16 bytes of nibbles, and has 32 values, s * (nibble - 8). */
+/* Q4_0: a block is 18 bytes, s and 16 bytes of nibbles, and has 32 values, s * (nibble - 8). In the
+ * order of quant.rs neighbours share a byte: byte j has value 2 * j in its low nibble and value
+ * 2 * j + 1 in its high one. */
 uint32_t jambharrow_dequantize_q4_0(const uint8_t *bytes, jambharrow_size bytes_len,
                                     float *out, jambharrow_size out_len);
+
+/* Q4_0 in GGML's order: the same block, but byte j has value j in its low nibble and value j + 16
+ * in its high one. Nothing in a block says which order it has: one that is read by the other order
+ * is not refused, and has its values at other places. */
+uint32_t jambharrow_dequantize_q4_0_ggml(const uint8_t *bytes, jambharrow_size bytes_len,
+                                         float *out, jambharrow_size out_len);
 
 /* Q5_0: a block is 22 bytes, s, 32 high bits and 16 bytes of nibbles, and has 32 values,
  * s * (high bit and nibble - 16). */
@@ -218,11 +228,36 @@ uint32_t jambharrow_dequantize_q6_k(const uint8_t *bytes, jambharrow_size bytes_
 uint32_t jambharrow_quantize_q4_0(const float *x, jambharrow_size x_len,
                                   uint8_t *out, jambharrow_size out_len, jambharrow_size lost[2]);
 
+/* Q4_0 in GGML's order: the same scales and nibbles, the latter at that order's places, and the same
+ * counts. */
+uint32_t jambharrow_quantize_q4_0_ggml(const float *x, jambharrow_size x_len,
+                                       uint8_t *out, jambharrow_size out_len,
+                                       jambharrow_size lost[2]);
+
 /* Q8_0: 34 bytes to 32 readings. The scale is the largest magnitude over 127. Where it is not zero
  * it is flushed if that magnitude is below 127 * 2^-14; it is sent to infinity if that is finite
  * and 127 * 2^16 or more. */
 uint32_t jambharrow_quantize_q8_0(const float *x, jambharrow_size x_len,
                                   uint8_t *out, jambharrow_size out_len, jambharrow_size lost[2]);
+
+/* Converters between the two orders of Q4_0: the nibbles of each block move to the places of the
+ * other order, so that the other order's decoder gives the same values. The two bytes of its scale
+ * are copied as they are.
+ *
+ * Each writes as many bytes as it is given, block by block, at the front of `out`, and keeps the
+ * places behind them; it does not work in place. One undoes the other. Each refuses, in this order,
+ * with
+ *   JAMBHARROW_TOO_LARGE          more than JAMBHARROW_MOST_BYTES bytes;
+ *   JAMBHARROW_NOT_WHOLE_BLOCKS   bytes that are not whole blocks of 18;
+ *   JAMBHARROW_ROOM_SHORT         fewer places in `out` than there are bytes. */
+
+/* From the order of quant.rs to GGML's. */
+uint32_t jambharrow_q4_0_to_ggml(const uint8_t *bytes, jambharrow_size bytes_len,
+                                 uint8_t *out, jambharrow_size out_len);
+
+/* From GGML's order to that of quant.rs. */
+uint32_t jambharrow_q4_0_from_ggml(const uint8_t *bytes, jambharrow_size bytes_len,
+                                   uint8_t *out, jambharrow_size out_len);
 
 /* Fixed-order sums: each adds in one order, so that a result has one set of bits.
  *
@@ -466,6 +501,14 @@ uint32_t jambharrow_linear_q4_0_cpu(const float *x, jambharrow_size x_len,
                                     float *scratch, jambharrow_size scratch_len,
                                     jambharrow_size batch, jambharrow_size in_feat,
                                     jambharrow_size out_feat);
+
+/* Q4_0 in GGML's order: the same. */
+uint32_t jambharrow_linear_q4_0_ggml_cpu(const float *x, jambharrow_size x_len,
+                                         const uint8_t *w, jambharrow_size w_len,
+                                         float *y, jambharrow_size y_len,
+                                         float *scratch, jambharrow_size scratch_len,
+                                         jambharrow_size batch, jambharrow_size in_feat,
+                                         jambharrow_size out_feat);
 
 /* The stepped layer: a layer worked one piece of one row at a time, so that the work may stop after
  * any call and go on at a later one.

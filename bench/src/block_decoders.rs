@@ -1,7 +1,7 @@
 //! The block decoders, over the blocks of one K block's values, of a row of the logger, and of many.
 use crate::calls::Call;
 use crate::measure::{Beside, Row, Size};
-use crate::q5_k;
+use crate::{q4_0_ggml, q5_k};
 use jambharrow::Refusal;
 use oracle::inputs::{self, any_scale, trained_scale, Draw, Layout};
 use oracle::ops::quant;
@@ -16,6 +16,18 @@ pub const DEQUANTIZE_Q4_0: Call = Call {
             1.0,
             jambharrow::dequantize_q4_0,
             quant::dequantize_q4_0,
+        )
+    },
+};
+
+pub const DEQUANTIZE_Q4_0_GGML: Call = Call {
+    name: "dequantize_q4_0_ggml",
+    rows: || {
+        rows(
+            &inputs::Q4_0,
+            1.0,
+            jambharrow::dequantize_q4_0_ggml,
+            q4_0_ggml::dequantize_q4_0_ggml,
         )
     },
 };

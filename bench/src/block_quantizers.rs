@@ -2,6 +2,7 @@
 //! lost, which the Rust does not.
 use crate::calls::Call;
 use crate::measure::{Beside, Row, Size};
+use crate::q4_0_ggml;
 use jambharrow::{Lost, Refusal};
 use oracle::inputs::reading;
 use oracle::ops::quant;
@@ -11,6 +12,14 @@ use std::hint::black_box;
 pub const QUANTIZE_Q4_0: Call = Call {
     name: "quantize_q4_0",
     rows: || rows(18, jambharrow::quantize_q4_0, quant::quantize_q4_0),
+};
+
+pub const QUANTIZE_Q4_0_GGML: Call = Call {
+    name: "quantize_q4_0_ggml",
+    rows: || {
+        let rust = q4_0_ggml::quantize_q4_0_ggml;
+        rows(18, jambharrow::quantize_q4_0_ggml, rust)
+    },
 };
 
 pub const QUANTIZE_Q8_0: Call = Call {

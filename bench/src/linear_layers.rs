@@ -1,7 +1,7 @@
 //! The layers, over one row of readings.
 use crate::calls::Call;
 use crate::measure::{Beside, Row, Size};
-use crate::q5_k;
+use crate::{q4_0_ggml, q5_k};
 use jambharrow::Refusal;
 use oracle::error::Result as RustResult;
 use oracle::inputs::{reading, trained_scale, Layout, Q4_0, Q4_K, Q5_K, Q6_K};
@@ -102,6 +102,14 @@ pub const LINEAR_Q4_0_CPU: Call = Call {
     rows: || {
         let rust = quant::linear_q4_0_cpu;
         rows_cpu(&Q4_0, jambharrow::linear_q4_0_cpu, rust)
+    },
+};
+
+pub const LINEAR_Q4_0_GGML_CPU: Call = Call {
+    name: "linear_q4_0_ggml_cpu",
+    rows: || {
+        let rust = q4_0_ggml::linear_q4_0_ggml_cpu;
+        rows_cpu(&Q4_0, jambharrow::linear_q4_0_ggml_cpu, rust)
     },
 };
 

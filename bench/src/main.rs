@@ -1,6 +1,7 @@
 //! Measures Jambharrow beside the Rust: a table on standard output, or a page with pictures.
 mod activation_blocks;
 mod binary16;
+mod block_converters;
 mod block_decoders;
 mod block_quantizers;
 mod calls;
@@ -12,6 +13,7 @@ mod linear_layers;
 mod measure;
 mod measured;
 mod page;
+mod q4_0_ggml;
 mod q5_k;
 mod ratios;
 mod row_dots;

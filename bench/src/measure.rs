@@ -26,7 +26,7 @@ pub enum Size {
 
 /// What stands beside ours.
 pub enum Beside {
-    /// The Rust, or what stands for it where it has no Q5_K.
+    /// The Rust, or what stands for it where it has no such call.
     Rust(Turn),
     /// Our own layer in one go.
     OneGo(Turn),

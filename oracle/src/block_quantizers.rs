@@ -1,9 +1,10 @@
 //! The block quantizers. The Rust says nothing of what their scales lose: that is counted beside it, by
-//! the scale of each block and the half that stands for it in the Rust's bytes.
+//! the scale of each block and the half that stands for it in the other side's bytes.
 use crate::calls::Call;
 use crate::compare::{Compared, Comparison, Difference};
 use crate::held;
 use crate::narrowing::judged;
+use crate::q4_0_ggml;
 use crate::sample::{count, floats, Records, STOOD_BYTE};
 use jambharrow::{How, Lost, Refusal, MOST_FLOATS};
 use oracle::inputs::{any_bits, reading, row, swings};
@@ -22,18 +23,30 @@ pub const QUANTIZE_Q8_0: Call = Call {
     sample: |records| Q8_0.sample(records),
 };
 
+pub const QUANTIZE_Q4_0_GGML: Call = Call {
+    name: "quantize_q4_0_ggml",
+    compare: |comparison| Q4_0_GGML.compare(comparison),
+    sample: |records| Q4_0_GGML.sample(records),
+};
+
 const Q4_0: Quantizer = Quantizer {
     bytes: 18,
     scale: |block| (f64::from(largest(block)) / -8.0) as f32,
-    rust: quant::quantize_q4_0,
+    other: quant::quantize_q4_0,
     ours: jambharrow::quantize_q4_0,
 };
 
 const Q8_0: Quantizer = Quantizer {
     bytes: 34,
     scale: |block| (f64::from(largest(block).abs()) / 127.0) as f32,
-    rust: quant::quantize_q8_0,
+    other: quant::quantize_q8_0,
     ours: jambharrow::quantize_q8_0,
+};
+
+const Q4_0_GGML: Quantizer = Quantizer {
+    other: q4_0_ggml::quantize,
+    ours: jambharrow::quantize_q4_0_ggml,
+    ..Q4_0
 };
 
 /// The readings of a block.
@@ -53,13 +66,14 @@ const EDGES: [u32; 6] = [
 /// How many magnitudes are taken on either side of an edge, at most.
 const NEAR: u64 = 64;
 
-/// A block quantizer, on both sides.
+/// A block quantizer, on both sides. The other side is the Rust, or its bytes in GGML's order by the
+/// rule of the reference.
 struct Quantizer {
     /// The bytes of a block.
     bytes: usize,
     /// The scale of a block before it is stored, by document 01.
     scale: fn(&[f32]) -> f32,
-    rust: fn(&[f32]) -> oracle::error::Result<Vec<u8>>,
+    other: fn(&[f32]) -> oracle::error::Result<Vec<u8>>,
     ours: fn(&[f32], &mut [u8]) -> Result<Lost, Refusal>,
 }
 
@@ -135,7 +149,7 @@ impl Quantizer {
         shapes
     }
 
-    /// Holds ours to the Rust, where that answers, and to document 01. The output is a part of a
+    /// Holds ours to the other side, where that answers, and to document 01. The output is a part of a
     /// larger memory, no other place of which may change.
     fn case(&self, data: &[f32], room: usize) -> Compared {
         let input = || {
@@ -150,7 +164,7 @@ impl Quantizer {
         let refusal = self.refusal(data.len(), room);
         held::outcome(refusal, ours.map(|_| ()), input)?;
         let written = match refusal {
-            None | Some(Refusal::NotAMultiple) => self.rust_answers(data, refusal, input)?,
+            None | Some(Refusal::NotAMultiple) => self.other_answers(data, refusal, input)?,
             Some(_) => Vec::new(),
         };
         held::places(at, &written, &before, &memory, input)?;
@@ -193,20 +207,21 @@ impl Quantizer {
         }
     }
 
-    /// The Rust's bytes, none where it refuses, as it must where document 01 has that from it.
-    fn rust_answers(
+    /// The other side's bytes, none where it refuses, as it must where document 01 has that from the
+    /// Rust.
+    fn other_answers(
         &self,
         data: &[f32],
         refusal: Option<Refusal>,
         input: impl Fn() -> String,
     ) -> Result<Vec<u8>, Difference> {
-        let rust = (self.rust)(data);
-        if rust.is_err() == refusal.is_some() {
-            return Ok(rust.unwrap_or_default());
+        let other = (self.other)(data);
+        if other.is_err() == refusal.is_some() {
+            return Ok(other.unwrap_or_default());
         }
         Err(Difference {
             input: input(),
-            wanted: format!("the Rust's {rust:?}"),
+            wanted: format!("the other side's {other:?}"),
             ours: format!("{refusal:?}"),
         })
     }
@@ -221,9 +236,9 @@ impl Quantizer {
             let refusal = self.refusal(data.len(), room);
             let (mut out, mut lost) = (vec![STOOD_BYTE; room], Lost::default());
             if refusal.is_none() {
-                let rust = (self.rust)(data).expect("the Rust answers for whole blocks");
-                out[..rust.len()].copy_from_slice(&rust);
-                lost = self.lost(data, &rust).expect("a half of each scale");
+                let other = (self.other)(data).expect("it answers for whole blocks");
+                out[..other.len()].copy_from_slice(&other);
+                lost = self.lost(data, &other).expect("a half of each scale");
             }
             records.push(&[
                 &count(room),
@@ -266,9 +281,9 @@ fn at_an_edge(number: u64) -> [f32; VALUES] {
 mod tests {
     use super::*;
 
-    /// What the Rust's scales of these readings lost.
+    /// What the other side's scales of these readings lost.
     fn lost(quantizer: &Quantizer, data: &[f32]) -> Lost {
-        let bytes = (quantizer.rust)(data).expect("whole blocks");
+        let bytes = (quantizer.other)(data).expect("whole blocks");
         quantizer.lost(data, &bytes).expect("a half of each scale")
     }
 
@@ -301,7 +316,7 @@ mod tests {
     #[test]
     fn a_half_of_another_scale_is_seen() {
         let data = [1.0; VALUES];
-        let mut bytes = (Q8_0.rust)(&data).expect("a whole block");
+        let mut bytes = (Q8_0.other)(&data).expect("a whole block");
         bytes[1] += 1;
         assert_eq!(Q8_0.lost(&data, &bytes), None);
     }

@@ -2,8 +2,8 @@
 use crate::compare::Comparison;
 use crate::sample::Records;
 use crate::{
-    activation_blocks, binary16, block_decoders, block_quantizers, fixed_order_sums, fused_dots,
-    linear_layers, stepped_layer,
+    activation_blocks, binary16, block_converters, block_decoders, block_quantizers,
+    fixed_order_sums, fused_dots, linear_layers, stepped_layer,
 };
 
 pub struct Call {
@@ -17,7 +17,7 @@ pub struct Call {
 
 /// Every call. A call's tag in the stored sample is its place here, so that a new one comes
 /// last.
-pub static CALLS: [Call; 36] = [
+pub static CALLS: [Call; 41] = [
     binary16::F16_TO_F32,
     binary16::F32_TO_F16,
     block_decoders::DEQUANTIZE_Q4_0,
@@ -54,4 +54,9 @@ pub static CALLS: [Call; 36] = [
     linear_layers::LINEAR_Q5_K_FUSED,
     linear_layers::LINEAR_Q5_K_INTEGER,
     linear_layers::LINEAR_Q5_K_INTEGER_RS,
+    block_decoders::DEQUANTIZE_Q4_0_GGML,
+    block_quantizers::QUANTIZE_Q4_0_GGML,
+    linear_layers::LINEAR_Q4_0_GGML_CPU,
+    block_converters::Q4_0_TO_GGML,
+    block_converters::Q4_0_FROM_GGML,
 ];

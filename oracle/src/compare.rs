@@ -12,8 +12,8 @@ const SHOWN: usize = 5;
 /// A case on which ours is not as it is to be.
 pub struct Difference {
     pub input: String,
-    /// The other side's answer, which is the Rust's or that of the reference of Q5_K; where it has
-    /// none, document 01's.
+    /// The other side's answer, which is the Rust's or a reference's; where it has none, the
+    /// documents'.
     pub wanted: String,
     pub ours: String,
 }

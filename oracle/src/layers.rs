@@ -10,7 +10,7 @@ use oracle::inputs::{row, set_scale, trained_scale, Layout, SCALES};
 use oracle::random::Random;
 use std::panic::{self, AssertUnwindSafe};
 
-/// A layer on both sides. The other side is the Rust, or the reference of Q5_K.
+/// A layer on both sides. The other side is the Rust, or a reference where it has no such layer.
 pub struct Layer {
     pub layout: Layout,
     pub other: Linear<RustResult<()>>,

@@ -1,7 +1,7 @@
 //! The layers.
 use crate::calls::Call;
 use crate::layers::{Kind, Layer};
-use crate::q5_k;
+use crate::{q4_0_ggml, q5_k};
 use oracle::inputs;
 use oracle::ops::quant;
 
@@ -75,6 +75,12 @@ pub const LINEAR_Q5_K_INTEGER_RS: Call = Call {
     name: "linear_q5_k_integer_rs",
     compare: |comparison| Q5_K_INTEGER_RS.compare(comparison),
     sample: |records| Q5_K_INTEGER_RS.sample(records),
+};
+
+pub const LINEAR_Q4_0_GGML_CPU: Call = Call {
+    name: "linear_q4_0_ggml_cpu",
+    compare: |comparison| Q4_0_GGML_CPU.compare(comparison),
+    sample: |records| Q4_0_GGML_CPU.sample(records),
 };
 
 const Q4_K_FUSED: Layer = Layer {
@@ -182,5 +188,14 @@ const Q5_K_INTEGER_RS: Layer = Layer {
     kind: Kind::WholeBlocks {
         ours: jambharrow::linear_q5_k_integer_rs,
         other_looks: true,
+    },
+};
+
+const Q4_0_GGML_CPU: Layer = Layer {
+    layout: inputs::Q4_0,
+    other: q4_0_ggml::linear_cpu,
+    kind: Kind::Cpu {
+        ours: jambharrow::linear_q4_0_ggml_cpu,
+        decode: q4_0_ggml::dequantize,
     },
 };

@@ -1,9 +1,10 @@
 //! Holds Jambharrow to the Rust, call by call, and the program `fillin` to the Rust's row dots; stores
-//! a sample of the Rust's answers and the record files of the gate. The Rust has no Q5_K: there the
-//! other side is a reference by the published layout (`q5_k`). Nor does it say what a scale lost: that
-//! is judged by values (`narrowing`).
+//! a sample of the Rust's answers and the record files of the gate. The Rust has no Q5_K, and no Q4_0
+//! in GGML's order: there the other side is a reference by the published layout (`q5_k`, `q4_0_ggml`).
+//! Nor does it say what a scale lost: that is judged by values (`narrowing`).
 mod activation_blocks;
 mod binary16;
+mod block_converters;
 mod block_counts;
 mod block_decoders;
 mod block_quantizers;
@@ -22,6 +23,8 @@ mod linear_layers;
 mod month;
 mod narrowing;
 mod options;
+mod packed_blocks;
+mod q4_0_ggml;
 mod q5_k;
 mod record_cases;
 mod record_damage;
@@ -42,9 +45,9 @@ use std::fmt::Display;
 use std::process::ExitCode;
 
 const USAGE: &str = "\
-oracle compare [CALL..]   compares ours with the Rust, and in Q5_K with the reference, on the calls
-                          named or on all; `stepped` names those of the stepped layer; status 1
-                          where an answer differs
+oracle compare [CALL..]   compares ours with the Rust, and with a reference where it has no such
+                          call, on the calls named or on all; `stepped` names those of the
+                          stepped layer; status 1 where an answer differs
 oracle campaign [--minutes M] [--seed S]
                           compares every call on other inputs in each round, for so many minutes
                           (60, seed 1): counts to a call and to a refusal number; keeps the cases

@@ -14,7 +14,8 @@ pub const STOOD_BYTE: u8 = 0xEE;
 const NAME: u8 = 255;
 
 /// The payloads stored of one call, each in its parts: the input, then the answer. The answer is the
-/// Rust's, or that of the reference of Q5_K; where there is none, it is document 01's refusal.
+/// Rust's, or a reference's where it has no such call; where there is none, it is document 01's
+/// refusal.
 #[derive(Default)]
 pub struct Records {
     pub payloads: Vec<Vec<Vec<u8>>>,

@@ -56,7 +56,7 @@ const fn refused(call: &'static str, record: usize, part: usize, untouched: usiz
     }
 }
 
-pub static FAMILIES: [Family; 8] = [
+pub static FAMILIES: [Family; 9] = [
     // A float; a half, and how the number fared.
     Family {
         name: "binary16",
@@ -132,5 +132,10 @@ pub static FAMILIES: [Family; 8] = [
             refused("stepped", 2, 7, 8),
             wrong("stepped", 2, 8),
         ],
+    },
+    // The number, and the output.
+    Family {
+        name: "block converters",
+        answers: &[wrong("q4_0_to_ggml", 0, 3), wrong("q4_0_to_ggml", 0, 4)],
     },
 ];

@@ -10,12 +10,37 @@ fn decode(decoder: Decoder, bytes: &[u8], out: &mut [f32]) -> Result<(), Refusal
 }
 
 /// Writes every value of the Q4_0 blocks, 18 bytes to 32 values, in order at the front of `out`,
-/// and keeps the places behind them. It refuses, in this order, as [`Refusal::TooLarge`] more than
+/// and keeps the places behind them. Neighbours share a byte, as in quant.rs; blocks in GGML's order
+/// are for [`dequantize_q4_0_ggml`]. It refuses, in this order, as [`Refusal::TooLarge`] more than
 /// [`MOST_BYTES`](crate::MOST_BYTES) bytes, as [`Refusal::NotWholeBlocks`] bytes that are not whole
 /// blocks, and as [`Refusal::RoomShort`] an `out` of fewer places than the blocks have values.
 #[inline]
 pub fn dequantize_q4_0(bytes: &[u8], out: &mut [f32]) -> Result<(), Refusal> {
     decode(sys::jambharrow_dequantize_q4_0, bytes, out)
+}
+
+/// Does with Q4_0 blocks in GGML's order what [`dequantize_q4_0`] does with its own: byte j of the
+/// nibbles has value j in its low nibble and value j + 16 in its high one. Nothing in a block says
+/// which order it has.
+///
+/// ```
+/// use jambharrow::{dequantize_q4_0, dequantize_q4_0_ggml};
+///
+/// // The scale is 1. The first byte has 7 + 8 in its low nibble and 1 + 8 in its high one, and all
+/// // other values are 0.
+/// let mut block = [0x88; 18];
+/// block[..3].copy_from_slice(&[0x00, 0x3C, 0x9F]);
+/// let mut out = [0.0; 32];
+/// dequantize_q4_0_ggml(&block, &mut out)?;
+/// assert_eq!([out[0], out[1], out[16]], [7.0, 0.0, 1.0]);
+/// // Read by the other order, the second value is at another place.
+/// dequantize_q4_0(&block, &mut out)?;
+/// assert_eq!([out[0], out[1], out[16]], [7.0, 1.0, 0.0]);
+/// # Ok::<(), jambharrow::Refusal>(())
+/// ```
+#[inline]
+pub fn dequantize_q4_0_ggml(bytes: &[u8], out: &mut [f32]) -> Result<(), Refusal> {
+    decode(sys::jambharrow_dequantize_q4_0_ggml, bytes, out)
 }
 
 /// Does with Q5_0 blocks, 22 bytes to 32 values, what [`dequantize_q4_0`] does with its own.
@@ -87,6 +112,32 @@ mod tests {
         assert_eq!(out[..3], [256.0, -254.0, -0.0]);
     }
 
+    /// The 32 values of a block, by a decoder.
+    fn decoded(
+        decoder: fn(&[u8], &mut [f32]) -> Result<(), Refusal>,
+        block: &[u8; 18],
+    ) -> [f32; 32] {
+        let mut out = [7.0; 32];
+        assert_eq!(decoder(block, &mut out), Ok(()));
+        out
+    }
+
+    #[test]
+    fn a_nibble_is_at_the_place_of_its_order() {
+        for byte in 0..16 {
+            for (shift, beside, apart) in [(0, 2 * byte, byte), (4, 2 * byte + 1, byte + 16)] {
+                // The scale is 1, one nibble 5 + 8, and all others 8.
+                let mut block = [0x88; 18];
+                block[..2].copy_from_slice(&[0x00, 0x3C]);
+                block[2 + byte] ^= 5 << shift;
+                let five_at =
+                    |place| std::array::from_fn(|at| [0.0, 5.0][usize::from(at == place)]);
+                assert_eq!(decoded(dequantize_q4_0, &block), five_at(beside));
+                assert_eq!(decoded(dequantize_q4_0_ggml, &block), five_at(apart));
+            }
+        }
+    }
+
     #[test]
     fn a_block_of_256_values() {
         let mut out = [0.0; 256];
@@ -140,17 +191,14 @@ mod tests {
 
     #[test]
     fn refusals_come_in_their_order_and_keep_the_output() {
-        let mut out = [7.0; 31];
-        assert_eq!(
-            dequantize_q4_0(&vec![0; MOST_BYTES + 1], &mut out),
-            Err(Refusal::TooLarge)
-        );
-        assert_eq!(
-            dequantize_q4_0(&[0; 19], &mut out),
-            Err(Refusal::NotWholeBlocks)
-        );
-        assert_eq!(dequantize_q4_0(&[0; 18], &mut out), Err(Refusal::RoomShort));
-        assert_eq!(out, [7.0; 31]);
+        let many = vec![0; MOST_BYTES + 1];
+        for decoder in [dequantize_q4_0, dequantize_q4_0_ggml] {
+            let mut out = [7.0; 31];
+            assert_eq!(decoder(&many, &mut out), Err(Refusal::TooLarge));
+            assert_eq!(decoder(&[0; 19], &mut out), Err(Refusal::NotWholeBlocks));
+            assert_eq!(decoder(&[0; 18], &mut out), Err(Refusal::RoomShort));
+            assert_eq!(out, [7.0; 31]);
+        }
         let mut out = [7.0; 255];
         let mut ask = |bytes| dequantize_q5_k(&vec![0; bytes], &mut out);
         assert_eq!(ask(MOST_BYTES + 1), Err(Refusal::TooLarge));

@@ -60,6 +60,13 @@ pub fn quantize_q4_0(data: &[f32], out: &mut [u8]) -> Result<Lost, Refusal> {
     quantize(sys::jambharrow_quantize_q4_0, data, out)
 }
 
+/// Does with Q4_0 blocks in GGML's order what [`quantize_q4_0`] does with its own: the same scales,
+/// nibbles and counts, with the nibbles at the places of that order.
+#[inline]
+pub fn quantize_q4_0_ggml(data: &[f32], out: &mut [u8]) -> Result<Lost, Refusal> {
+    quantize(sys::jambharrow_quantize_q4_0_ggml, data, out)
+}
+
 /// Does with Q8_0 blocks, 34 bytes to 32 readings, what [`quantize_q4_0`] does with its own. A scale
 /// is the largest magnitude over 127.
 #[inline]
@@ -71,6 +78,9 @@ pub fn quantize_q8_0(data: &[f32], out: &mut [u8]) -> Result<Lost, Refusal> {
 mod tests {
     use super::*;
     use crate::MOST_FLOATS;
+
+    /// A quantizer.
+    type Call = fn(&[f32], &mut [u8]) -> Result<Lost, Refusal>;
 
     /// What is said where no scale is lost.
     const NONE: Result<Lost, Refusal> = Ok(Lost {
@@ -90,6 +100,19 @@ mod tests {
         assert_eq!(quantize_q4_0(&data, &mut out), NONE);
         assert_eq!(out[..3], [0x00, 0xBC, 0x80]);
         assert_eq!(out[3..18], [0x88; 15]);
+    }
+
+    #[test]
+    fn the_other_order_has_the_same_scale_and_nibbles() {
+        // The scale is 1, and the nibbles are 0, 1, .. 15, 0, 1, .. 15.
+        let data: [f32; 32] = std::array::from_fn(|place| (place % 16) as f32 - 8.0);
+        let (mut paired, mut apart) = ([0xEE; 19], [0xEE; 19]);
+        assert_eq!(quantize_q4_0(&data, &mut paired), NONE);
+        assert_eq!(quantize_q4_0_ggml(&data, &mut apart), NONE);
+        assert_eq!(paired[..5], [0x00, 0x3C, 0x10, 0x32, 0x54]);
+        assert_eq!(paired[9..11], [0xFE, 0x10]);
+        assert_eq!(apart[..5], [0x00, 0x3C, 0x00, 0x11, 0x22]);
+        assert_eq!(apart[17..], [0xFF, 0xEE]);
     }
 
     #[test]
@@ -152,15 +175,17 @@ mod tests {
             infinite: 1,
         });
         let mut out = [0xEE; 5 * 34 + 1];
-        assert_eq!(quantize_q4_0(data.as_flattened(), &mut out), wanted);
-        assert_eq!(quantize_q8_0(data.as_flattened(), &mut out), wanted);
+        for quantizer in [quantize_q4_0, quantize_q4_0_ggml, quantize_q8_0] {
+            assert_eq!(quantizer(data.as_flattened(), &mut out), wanted);
+        }
         assert_eq!(quantize_q4_0(&[], &mut out), NONE);
     }
 
     #[test]
     fn counts_are_written_where_a_call_did_its_work() {
-        let quantizers: [(Quantizer, usize); 2] = [
+        let quantizers: [(Quantizer, usize); 3] = [
             (sys::jambharrow_quantize_q4_0, 18),
+            (sys::jambharrow_quantize_q4_0_ggml, 18),
             (sys::jambharrow_quantize_q8_0, 34),
         ];
         // The second block is sent to infinity, and all others are flushed.
@@ -183,14 +208,14 @@ mod tests {
 
     #[test]
     fn refusals_in_their_order_keep_the_output() {
-        let mut out = [0xEE; 33];
+        let quantizers: [(Call, usize); 2] = [(quantize_q4_0_ggml, 18), (quantize_q8_0, 34)];
         let many = vec![0.0; MOST_FLOATS + 1];
-        assert_eq!(quantize_q8_0(&many, &mut out), Err(Refusal::TooLarge));
-        assert_eq!(
-            quantize_q8_0(&[0.0; 33], &mut out),
-            Err(Refusal::NotAMultiple)
-        );
-        assert_eq!(quantize_q8_0(&[0.0; 32], &mut out), Err(Refusal::RoomShort));
-        assert_eq!(out, [0xEE; 33]);
+        for (quantizer, block) in quantizers {
+            let mut out = vec![0xEE; block - 1];
+            assert_eq!(quantizer(&many, &mut out), Err(Refusal::TooLarge));
+            assert_eq!(quantizer(&[0.0; 33], &mut out), Err(Refusal::NotAMultiple));
+            assert_eq!(quantizer(&[0.0; 32], &mut out), Err(Refusal::RoomShort));
+            assert_eq!(out, vec![0xEE; block - 1]);
+        }
     }
 }

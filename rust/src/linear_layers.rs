@@ -318,6 +318,22 @@ pub fn linear_q4_0_cpu(
     linear_cpu(layer, x, w_q4, y_out, scratch, sizes)
 }
 
+/// Does with Q4_0 blocks in GGML's order what [`linear_q4_0_cpu`] does with its own.
+#[inline]
+pub fn linear_q4_0_ggml_cpu(
+    x: &[f32],
+    w_q4: &[u8],
+    y_out: &mut [f32],
+    scratch: &mut [f32],
+    batch: usize,
+    in_feat: usize,
+    out_feat: usize,
+) -> Result<(), Refusal> {
+    let layer = sys::jambharrow_linear_q4_0_ggml_cpu;
+    let sizes = [batch, in_feat, out_feat];
+    linear_cpu(layer, x, w_q4, y_out, scratch, sizes)
+}
+
 #[cfg(test)]
 mod tests {
     use super::*;
@@ -476,6 +492,25 @@ mod tests {
     }
 
     #[test]
+    fn rows_of_q4_0_in_either_order() {
+        // The scale is 1; the first byte has 1 in its high nibble, and all other weights are 0.
+        let mut w = [0x88; 18];
+        w[..3].copy_from_slice(&[0x00, 0x3C, 0x98]);
+        let x: [f32; 32] = std::array::from_fn(|place| place as f32);
+        let layers: [(Cpu, usize); 2] = [(linear_q4_0_cpu, 1), (linear_q4_0_ggml_cpu, 16)];
+        for (layer, place) in layers {
+            let (mut y, mut scratch) = ([7.0], [7.0; 33]);
+            assert_eq!(layer(&x, &w, &mut y, &mut scratch, 1, 32, 1), Ok(()));
+            assert_eq!(y, [place as f32]);
+            let weights = std::array::from_fn(|at| match at {
+                32 => 7.0,
+                _ => [0.0, 1.0][usize::from(at == place)],
+            });
+            assert_eq!(scratch, weights);
+        }
+    }
+
+    #[test]
     fn a_layer_without_readings_looks_at_its_weights_and_writes_nothing() {
         let mut y = [7.0];
         let fused = |w: &[u8], y: &mut [f32]| linear_q4_k_fused(&[], w, y, 0, 256, 1);
@@ -608,13 +643,16 @@ mod tests {
             assert_eq!(of(128, [128, block, 1, 0]), Some(Refusal::WeightsLong));
             assert_eq!(of(256, [256, block, 1, 255]), Some(Refusal::RoomShort));
         }
-        let of = |in_feat, lengths| refusal(linear_q4_0_cpu, in_feat, lengths);
-        assert_eq!(of(MOST_IN + 1, [0, 0, 0, 0]), Some(Refusal::TooLarge));
-        assert_eq!(of(31, [33, 19, 2, 0]), Some(Refusal::NotAMultiple));
-        assert_eq!(of(32, [33, 17, 2, 0]), Some(Refusal::WeightsShort(None)));
-        assert_eq!(of(32, [33, 19, 2, 0]), Some(Refusal::WeightsLong));
-        assert_eq!(of(32, [33, 18, 2, 0]), Some(Refusal::ReadingsShort));
-        assert_eq!(of(32, [32, 18, 2, 0]), Some(Refusal::RoomShort));
-        assert_eq!(of(32, [32, 18, 1, 31]), Some(Refusal::RoomShort));
+        let of_q4_0: [Cpu; 2] = [linear_q4_0_cpu, linear_q4_0_ggml_cpu];
+        for layer in of_q4_0 {
+            let of = |in_feat, lengths| refusal(layer, in_feat, lengths);
+            assert_eq!(of(MOST_IN + 1, [0, 0, 0, 0]), Some(Refusal::TooLarge));
+            assert_eq!(of(31, [33, 19, 2, 0]), Some(Refusal::NotAMultiple));
+            assert_eq!(of(32, [33, 17, 2, 0]), Some(Refusal::WeightsShort(None)));
+            assert_eq!(of(32, [33, 19, 2, 0]), Some(Refusal::WeightsLong));
+            assert_eq!(of(32, [33, 18, 2, 0]), Some(Refusal::ReadingsShort));
+            assert_eq!(of(32, [32, 18, 2, 0]), Some(Refusal::RoomShort));
+            assert_eq!(of(32, [32, 18, 1, 31]), Some(Refusal::RoomShort));
+        }
     }
 }

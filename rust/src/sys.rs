@@ -11,6 +11,9 @@ pub type Decoder = unsafe extern "C" fn(*const u8, Size, *mut f32, Size) -> u32;
 /// A block quantizer. Last is the place of the two counts of lost scales.
 pub type Quantizer = unsafe extern "C" fn(*const f32, Size, *mut u8, Size, *mut [Size; 2]) -> u32;
 
+/// A converter of blocks.
+pub type Converter = unsafe extern "C" fn(*const u8, Size, *mut u8, Size) -> u32;
+
 /// The dot of a packed block and an activation block, whose parts are its scale, its quants and its
 /// sums. Last are the places of the value and of the two counts of blocks.
 pub type BlockDot = unsafe extern "C" fn(
@@ -68,6 +71,12 @@ unsafe extern "C" {
         out: *mut f32,
         out_len: Size,
     ) -> u32;
+    pub fn jambharrow_dequantize_q4_0_ggml(
+        bytes: *const u8,
+        bytes_len: Size,
+        out: *mut f32,
+        out_len: Size,
+    ) -> u32;
     pub fn jambharrow_dequantize_q5_0(
         bytes: *const u8,
         bytes_len: Size,
@@ -106,12 +115,32 @@ unsafe extern "C" {
         out_len: Size,
         lost: *mut [Size; 2],
     ) -> u32;
+    pub fn jambharrow_quantize_q4_0_ggml(
+        x: *const f32,
+        x_len: Size,
+        out: *mut u8,
+        out_len: Size,
+        lost: *mut [Size; 2],
+    ) -> u32;
     pub fn jambharrow_quantize_q8_0(
         x: *const f32,
         x_len: Size,
         out: *mut u8,
         out_len: Size,
         lost: *mut [Size; 2],
+    ) -> u32;
+
+    pub fn jambharrow_q4_0_to_ggml(
+        bytes: *const u8,
+        bytes_len: Size,
+        out: *mut u8,
+        out_len: Size,
+    ) -> u32;
+    pub fn jambharrow_q4_0_from_ggml(
+        bytes: *const u8,
+        bytes_len: Size,
+        out: *mut u8,
+        out_len: Size,
     ) -> u32;
 
     pub fn jambharrow_canonical_chunk(
@@ -358,6 +387,19 @@ unsafe extern "C" {
         out_feat: Size,
     ) -> u32;
     pub fn jambharrow_linear_q4_0_cpu(
+        x: *const f32,
+        x_len: Size,
+        w: *const u8,
+        w_len: Size,
+        y: *mut f32,
+        y_len: Size,
+        scratch: *mut f32,
+        scratch_len: Size,
+        batch: Size,
+        in_feat: Size,
+        out_feat: Size,
+    ) -> u32;
+    pub fn jambharrow_linear_q4_0_ggml_cpu(
         x: *const f32,
         x_len: Size,
         w: *const u8,

@@ -1,8 +1,9 @@
-//! What docs/FIRMWARE.md tells by counts: short weights, by those of a layer of 4,096 to 16 in Q4_K, and
-//! lost scales.
+//! What docs/FIRMWARE.md tells: short weights by their counts, by those of a layer of 4,096 to 16 in
+//! Q4_K; lost scales by theirs; and that the wrong order of Q4_0 is not refused.
 use jambharrow::{
-    canonical_dot_q4k_fused, dequantize_q4_0, dequantize_q8_0, linear_q4_k_fused, quantize_q4_0,
-    quantize_q8_0, Blocks, Layer, Lost, Refusal,
+    canonical_dot_q4k_fused, dequantize_q4_0, dequantize_q4_0_ggml, dequantize_q8_0,
+    linear_q4_0_cpu, linear_q4_0_ggml_cpu, linear_q4_k_fused, q4_0_from_ggml, quantize_q4_0,
+    quantize_q4_0_ggml, quantize_q8_0, Blocks, Layer, Lost, Refusal,
 };
 
 const LAYER: Layer = Layer {
@@ -114,4 +115,30 @@ fn a_swing_on_a_mean_goes_flat_by_rounding_and_no_count_tells() {
         assert_eq!(lost, Lost::default());
         assert_eq!(decoded, [decoded[0]; 32]);
     }
+}
+
+#[test]
+fn the_wrong_order_is_not_refused_and_has_the_values_at_other_places() {
+    let readings: [f32; 32] = std::array::from_fn(|place| (place * place % 17) as f32 - 8.0);
+    let (mut block, mut converted) = ([0; 18], [0; 18]);
+    let packed = quantize_q4_0_ggml(&readings, &mut block);
+    assert_eq!(packed, Ok(Lost::default()));
+    let (mut right, mut wrong) = ([7.0; 32], [7.0; 32]);
+    assert_eq!(dequantize_q4_0_ggml(&block, &mut right), Ok(()));
+    assert_eq!(dequantize_q4_0(&block, &mut wrong), Ok(()));
+    assert_ne!(right, wrong);
+    let [mut one, mut other] = [right, wrong];
+    one.sort_by(f32::total_cmp);
+    other.sort_by(f32::total_cmp);
+    assert_eq!(one, other);
+
+    // A layer of either order, once the block is in it, has the same output.
+    assert_eq!(q4_0_from_ggml(&block, &mut converted), Ok(()));
+    let (mut y, mut of_pairs, mut scratch) = ([7.0], [7.0], [7.0; 32]);
+    let layer = linear_q4_0_ggml_cpu(&readings, &block, &mut y, &mut scratch, 1, 32, 1);
+    assert_eq!(layer, Ok(()));
+    let layer = linear_q4_0_cpu(&readings, &converted, &mut of_pairs, &mut scratch, 1, 32, 1);
+    assert_eq!(layer, Ok(()));
+    assert_eq!(y, of_pairs);
+    assert_eq!(scratch, right);
 }

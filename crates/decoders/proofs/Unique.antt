@@ -2,6 +2,7 @@
 use denote.Ref.{now}
 use Rattle.refusals.proofs.Once.{OneCall, one-filled}
 use Rattle.decoders.proofs.blocks.dequantize_q4_0.Reads as dequantize-q4-0
+use Rattle.decoders.proofs.blocks.dequantize_q4_0_ggml.Reads as dequantize-q4-0-ggml
 use Rattle.decoders.proofs.blocks.dequantize_q5_0.Reads as dequantize-q5-0
 use Rattle.decoders.proofs.blocks.dequantize_q8_0.Reads as dequantize-q8-0
 use Rattle.decoders.proofs.blocks.dequantize_q4_k.Reads as dequantize-q4-k
@@ -10,6 +11,9 @@ use Rattle.decoders.proofs.blocks.dequantize_q6_k.Reads as dequantize-q
 
 pub dequantize-q4-0-once : OneCall dequantize-q4-0.Post (λ κs s. now (s .1 .0))
 dequantize-q4-0-once κs a x y s t h k = one-filled x y h k
+
+pub dequantize-q4-0-ggml-once : OneCall dequantize-q4-0-ggml.Post (λ κs s. now (s .1 .0))
+dequantize-q4-0-ggml-once κs a x y s t h k = one-filled x y h k
 
 pub dequantize-q5-0-once : OneCall dequantize-q5-0.Post (λ κs s. now (s .1 .0))
 dequantize-q5-0-once κs a x y s t h k = one-filled x y h k

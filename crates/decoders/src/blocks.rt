@@ -104,6 +104,14 @@ pub fn dequantize_q4_0(bytes: &[u8], out: &mut [f32]) -> Outcome
     dequantize(Format::Of32(Format32::Q40), bytes, out)
 }
 
+// Q4_0 in GGML's order: 32 values to a block of 18 bytes.
+pub fn dequantize_q4_0_ggml(bytes: &[u8], out: &mut [f32]) -> Outcome
+    ensures { λ r. ⌜ (outcomeSays r, now (out .exit))
+        ≡ dequantizeSays (Format.Of32 Format32.Q40Ggml) (now (bytes .entry)) (now (out .entry)) ⌝ }
+{
+    dequantize(Format::Of32(Format32::Q40Ggml), bytes, out)
+}
+
 // Q5_0: 32 values to a block of 22 bytes.
 pub fn dequantize_q5_0(bytes: &[u8], out: &mut [f32]) -> Outcome
     ensures { λ r. ⌜ (outcomeSays r, now (out .exit))

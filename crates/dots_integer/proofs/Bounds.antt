@@ -2,7 +2,7 @@
 use mathlib.Core.Path.{_≡_, refl, sym, ap, _∙_, subst}
 use mathlib.Core.Bool.{Bool, true, false, cond, false≢true}
 use mathlib.Core.List.{List}
-use Prim.Native.Nat.{ℕ, zero, suc, _+_, _*_, _-_, _/_, _%_, _^_, _≤_, _<_}
+use Prim.Native.Nat.{ℕ, suc, _+_, _*_, _-_, _/_, _%_, _^_, _≤_, _<_}
 use native.Mathlib.Nat.{mul-le-mul-right}
 use native.Mathlib.Omega.{arith}
 use borrow.Author.Tests.{ltb-true, ltb-false}
@@ -23,6 +23,7 @@ use Rattle.layouts.specs.Formats.{hasMinimums}
 use Rattle.layouts.specs.K.{scaleByte, scaleQ4K, nibblePaired, quantQ4K, quantQ5K, scaleQ6K, quantQ6K, scaleK, quantK}
 use Rattle.layouts.specs.declared.format.FormatK.{FormatK}
 use Rattle.layouts.specs.declared.format.FormatK.the-variants.{Q4K, Q5K, Q6K}
+use Rattle.layouts.proofs.Quants.{nibble-small}
 use Rattle.dots_activation.specs.Whole.{elem, eqZ, Within}
 use Rattle.dots_integer.specs.Inner.{FiveBits}
 use Rattle.dots_integer.specs.Dots.{weighedAt, wholeSum}
@@ -103,10 +104,6 @@ less-within u h = by (ltb u 32) refl
     by : (t : Bool) → ltb u 32 ≡ t → Within 32 (cond t (negsuc (32 - suc u)) (pos (u - 32)))
     by true e = record { abs = omega (arith, ltb-true u 32 e) }
     by false e = record { abs = omega (arith, ltb-false u 32 e) }
-
-nibble-small : (b k : ℕ) → b < 256 → nibble b k ≤ 15
-nibble-small b zero h = omega arith
-nibble-small b (suc k) h = omega arith
 
 -- the quants of a format with minimums have at most five bits
 five-bits-most : (f : FormatK) → hasMinimums f ≡ true → mostQuant f ≤ 31

@@ -15,13 +15,17 @@ use Rattle.exports.proofs.activation_blocks.jambharrow_integer_dot_q4k.
 use Rattle.exports.proofs.activation_blocks.jambharrow_integer_dot_q5k.Reads as integer-dot-q5k
 use Rattle.exports.proofs.binary16.jambharrow_f16_to_f32.Reads as f16-to-f32
 use Rattle.exports.proofs.binary16.jambharrow_f32_to_f16.Reads as f32-to-f16
+use Rattle.exports.proofs.block_converters.jambharrow_q4_0_to_ggml.Reads as q4-0-to-ggml
+use Rattle.exports.proofs.block_converters.jambharrow_q4_0_from_ggml.Reads as q4-0-from-ggml
 use Rattle.exports.proofs.block_decoders.jambharrow_dequantize_q4_0.Reads as dequantize-q4-0
+use Rattle.exports.proofs.block_decoders.jambharrow_dequantize_q4_0_ggml.Reads as dequantize-q4-0-ggml
 use Rattle.exports.proofs.block_decoders.jambharrow_dequantize_q5_0.Reads as dequantize-q5-0
 use Rattle.exports.proofs.block_decoders.jambharrow_dequantize_q8_0.Reads as dequantize-q8-0
 use Rattle.exports.proofs.block_decoders.jambharrow_dequantize_q4_k.Reads as dequantize-q4-k
 use Rattle.exports.proofs.block_decoders.jambharrow_dequantize_q5_k.Reads as dequantize-q5-k
 use Rattle.exports.proofs.block_decoders.jambharrow_dequantize_q6_k.Reads as dequantize-q6-k
 use Rattle.exports.proofs.block_quantizers.jambharrow_quantize_q4_0.Reads as quantize-q4-0
+use Rattle.exports.proofs.block_quantizers.jambharrow_quantize_q4_0_ggml.Reads as quantize-q4-0-ggml
 use Rattle.exports.proofs.block_quantizers.jambharrow_quantize_q8_0.Reads as quantize-q8-0
 use Rattle.exports.proofs.fixed_order_sums.jambharrow_canonical_chunk.Reads as canonical-chunk
 use Rattle.exports.proofs.fixed_order_sums.jambharrow_canonical_combine.Reads as canonical-combine
@@ -42,6 +46,7 @@ use Rattle.exports.proofs.linear_layers.jambharrow_linear_q6_k_integer_
 use Rattle.exports.proofs.linear_layers.jambharrow_linear_q4_k_cpu.Reads as linear-q4-k-cpu
 use Rattle.exports.proofs.linear_layers.jambharrow_linear_q6_k_cpu.Reads as linear-q6-k-cpu
 use Rattle.exports.proofs.linear_layers.jambharrow_linear_q4_0_cpu.Reads as linear-q4-0-cpu
+use Rattle.exports.proofs.linear_layers.jambharrow_linear_q4_0_ggml_cpu.Reads as linear-q4-0-ggml-cpu
 use Rattle.exports.proofs.stepped_layer.jambharrow_open.Reads as opening
 use Rattle.exports.proofs.stepped_layer.jambharrow_piece.Reads as piece
 use Rattle.exports.proofs.stepped_layer.jambharrow_run.Reads as running
@@ -55,6 +60,9 @@ f32-to-f16-once κs a x y s t h k = both h k
 
 pub dequantize-q4-0-once : OneCall dequantize-q4-0.Post (λ κs s. now (s .1 .0))
 dequantize-q4-0-once κs a x y s t h k = both h k
+
+pub dequantize-q4-0-ggml-once : OneCall dequantize-q4-0-ggml.Post (λ κs s. now (s .1 .0))
+dequantize-q4-0-ggml-once κs a x y s t h k = both h k
 
 pub dequantize-q5-0-once : OneCall dequantize-q5-0.Post (λ κs s. now (s .1 .0))
 dequantize-q5-0-once κs a x y s t h k = both h k
@@ -74,8 +82,17 @@ dequantize-q6-k-once κs a x y s t h k = both h k
 pub quantize-q4-0-once : OneCall {M = List ℕ × List ℕ} quantize-q4-0.Post (λ κs s. (now (s .1 .0), now (s .1 .1 .0)))
 quantize-q4-0-once κs a x y s t h k = both h k
 
+pub quantize-q4-0-ggml-once : OneCall {M = List ℕ × List ℕ} quantize-q4-0-ggml.Post (λ κs s. (now (s .1 .0), now (s .1 .1 .0)))
+quantize-q4-0-ggml-once κs a x y s t h k = both h k
+
 pub quantize-q8-0-once : OneCall {M = List ℕ × List ℕ} quantize-q8-0.Post (λ κs s. (now (s .1 .0), now (s .1 .1 .0)))
 quantize-q8-0-once κs a x y s t h k = both h k
+
+pub q4-0-to-ggml-once : OneCall q4-0-to-ggml.Post (λ κs s. now (s .1 .0))
+q4-0-to-ggml-once κs a x y s t h k = both h k
+
+pub q4-0-from-ggml-once : OneCall q4-0-from-ggml.Post (λ κs s. now (s .1 .0))
+q4-0-from-ggml-once κs a x y s t h k = both h k
 
 pub canonical-chunk-once : OneCall canonical-chunk.Post (λ κs s. now (s .1 .1 .0))
 canonical-chunk-once κs a x y s t h k = both h k
@@ -153,6 +170,9 @@ linear-q6-k-cpu-once κs a x y s t h k = both h k
 
 pub linear-q4-0-cpu-once : OneCall {M = List Float × List Float} linear-q4-0-cpu.Post (λ κs s. (now (s .1 .1 .0), now (s .1 .1 .1 .0)))
 linear-q4-0-cpu-once κs a x y s t h k = both h k
+
+pub linear-q4-0-ggml-cpu-once : OneCall {M = List Float × List Float} linear-q4-0-ggml-cpu.Post (λ κs s. (now (s .1 .1 .0), now (s .1 .1 .1 .0)))
+linear-q4-0-ggml-cpu-once κs a x y s t h k = both h k
 
 -- the number, and the slots and marks that are left
 pub open-once : OneCall opening.Post (λ κs s. memory (now (s .1 .1 .1 .0)) (now (s .1 .1 .1 .1 .0)))

@@ -16,6 +16,15 @@ pub extern "C" fn jambharrow_dequantize_q4_0(bytes: &[u8], out: &mut [f32]) -> u
     number_of(decoders::dequantize_q4_0(bytes, out))
 }
 
+// `decoders::dequantize_q4_0_ggml`, for C.
+#[no_mangle]
+pub extern "C" fn jambharrow_dequantize_q4_0_ggml(bytes: &[u8], out: &mut [f32]) -> u32
+    ensures { λ r. ⌜ (r, now (out .exit))
+        ≡ numbered (dequantizeSays (Format.Of32 Format32.Q40Ggml) (now (bytes .entry)) (now (out .entry))) ⌝ }
+{
+    number_of(decoders::dequantize_q4_0_ggml(bytes, out))
+}
+
 // `decoders::dequantize_q5_0`, for C.
 #[no_mangle]
 pub extern "C" fn jambharrow_dequantize_q5_0(bytes: &[u8], out: &mut [f32]) -> u32

@@ -14,6 +14,19 @@ pub extern "C" fn jambharrow_quantize_q4_0(x: &[f32], out: &mut [u8], lost: &mut
     number_and_lost(quantizers::quantize_q4_0(x, out), lost)
 }
 
+// `quantizers::quantize_q4_0_ggml`, for C.
+#[no_mangle]
+pub extern "C" fn jambharrow_quantize_q4_0_ggml(
+    x: &[f32],
+    out: &mut [u8],
+    lost: &mut [usize; 2],
+) -> u32
+    ensures { λ r. ⌜ (r, (now (out .exit), now (lost .exit)))
+        ≡ numberedLost (quantizeSays Target.Q40Ggml (now (x .entry)) (now (out .entry))) (now (lost .entry)) ⌝ }
+{
+    number_and_lost(quantizers::quantize_q4_0_ggml(x, out), lost)
+}
+
 // `quantizers::quantize_q8_0`, for C.
 #[no_mangle]
 pub extern "C" fn jambharrow_quantize_q8_0(x: &[f32], out: &mut [u8], lost: &mut [usize; 2]) -> u32

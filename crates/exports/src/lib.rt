@@ -2,6 +2,7 @@
 // and lays the answer out as include/jambharrow.h says.
 mod activation_blocks;
 mod binary16;
+mod block_converters;
 mod block_decoders;
 mod block_quantizers;
 mod fixed_order_sums;

@@ -2,5 +2,6 @@
 mod cpu;
 
 pub use cpu::linear_q4_0_cpu;
+pub use cpu::linear_q4_0_ggml_cpu;
 pub use cpu::linear_q4_k_cpu;
 pub use cpu::linear_q6_k_cpu;

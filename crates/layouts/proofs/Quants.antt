@@ -1,31 +1,39 @@
 -- The layouts' whole numbers at the places that a turn fills, by the bytes that it reads. Assumes nothing.
 use mathlib.Core.Path.{_≡_, ap, _∙_}
-use Prim.Native.Nat.{ℕ, _+_, _*_, _/_, _%_, _^_, _<_}
+use Prim.Native.Nat.{ℕ, zero, suc, _+_, _*_, _/_, _%_, _^_, _≤_, _<_}
 use native.Mathlib.Omega.{arith}
 use mathlib.Core.List.{List}
 use lib.Arith.{digits-div}
 use lib.IntN.{pos, _-ℤ_}
 use lib.ListN.{getD}
 use Rattle.numbers.specs.Fields.{le32}
-use Rattle.layouts.specs.Of32.{nibble, nibbleApart, quant32}
+use Rattle.layouts.specs.Of32.{nibble, nibbleBeside, nibbleApart, quant32}
 use Rattle.layouts.specs.K.{nibblePaired, quantQ4K, quantQ5K, quantQ6K}
-use Rattle.layouts.specs.declared.format.Format32.the-variants.{Q40, Q50}
+use Rattle.layouts.specs.declared.format.Format32.the-variants.{Q40, Q40Ggml, Q50}
 
--- ---- Q4_0: byte k has the neighbours 2 k and 2 k + 1
+pub nibble-small : (b k : ℕ) → b < 256 → nibble b k ≤ 15
+nibble-small b zero h = omega arith
+nibble-small b (suc k) h = omega arith
 
-pub q40-low : (bs : List ℕ) (k : ℕ) → quant32 Q40 bs (2 * k) ≡ pos (getD bs (2 + k) 0 % 16) -ℤ pos 8
+-- ---- nibbles that are neighbours: byte k has the places 2 k and 2 k + 1
+
+module _ (bs : List ℕ) (at k : ℕ) where
+  pub beside-low : nibbleBeside bs at (2 * k) ≡ getD bs (at + k) 0 % 16
+  beside-low =
+      let a : 2 * k / 2 ≡ k = omega arith in
+      let b : 2 * k % 2 ≡ 0 = omega arith in
+      rw (a, b)
+
+  pub beside-high : nibbleBeside bs at (2 * k + 1) ≡ getD bs (at + k) 0 / 16
+  beside-high =
+      let a : (2 * k + 1) / 2 ≡ k = omega arith in
+      let b : (2 * k + 1) % 2 ≡ 1 = omega arith in
+      rw (a, b)
+
+-- Q4_0: the nibble at place i, which is n
+pub q40-at : (bs : List ℕ) (i n : ℕ) → nibbleBeside bs 2 i ≡ n → quant32 Q40 bs i ≡ pos n -ℤ pos 8
 unfolding quant32
-q40-low bs k =
-    let a : 2 * k / 2 ≡ k = omega arith in
-    let b : 2 * k % 2 ≡ 0 = omega arith in
-    rw (a, b)
-
-pub q40-high : (bs : List ℕ) (k : ℕ) → quant32 Q40 bs (2 * k + 1) ≡ pos (getD bs (2 + k) 0 / 16) -ℤ pos 8
-unfolding quant32
-q40-high bs k =
-    let a : (2 * k + 1) / 2 ≡ k = omega arith in
-    let b : (2 * k + 1) % 2 ≡ 1 = omega arith in
-    rw (a, b)
+q40-at bs i n e = rw e
 
 -- ---- nibbles 16 apart: byte k has the places k and k + 16
 
@@ -41,6 +49,11 @@ module _ (bs : List ℕ) (at k : ℕ) (h : k < 16) where
       let a : (k + 16) % 16 ≡ k = omega arith in
       let b : (k + 16) / 16 ≡ 1 = omega arith in
       rw (a, b)
+
+-- Q4_0 in GGML's order: the nibble at place i, which is n
+pub q40-ggml-at : (bs : List ℕ) (i n : ℕ) → nibbleApart bs 2 i ≡ n → quant32 Q40Ggml bs i ≡ pos n -ℤ pos 8
+unfolding quant32
+q40-ggml-at bs i n e = rw e
 
 -- Q5_0: the nibble at place i, which is n, with its high bit above it
 pub q50-at : (bs : List ℕ) (i n : ℕ) → nibbleApart bs 6 i ≡ n → quant32 Q50 bs i ≡ pos (n + 16 * (le32 bs 2 / 2 ^ i % 2)) -ℤ pos 16

@@ -9,7 +9,7 @@ use lib.ListN.{take, drop}
 use Rattle.layouts.specs.Formats.{bytes32, bytesK, blockBytes, blockValues}
 use Rattle.layouts.specs.Weights.{valueIn, weightAt}
 use Rattle.layouts.specs.declared.format.Format32.{Format32}
-use Rattle.layouts.specs.declared.format.Format32.the-variants.{Q40, Q50, Q80}
+use Rattle.layouts.specs.declared.format.Format32.the-variants.{Q40, Q40Ggml, Q50, Q80}
 use Rattle.layouts.specs.declared.format.FormatK.{FormatK}
 use Rattle.layouts.specs.declared.format.FormatK.the-variants.{Q4K, Q5K, Q6K}
 use Rattle.layouts.specs.declared.format.Format.{Format}
@@ -17,6 +17,7 @@ use Rattle.layouts.specs.declared.format.Format.the-variants.{Of32, OfK}
 
 pub least-32 : (f : Format32) → (18 ≤ bytes32 f) × (bytes32 f ≤ 34)
 least-32 Q40 = (lit≤ tt, lit≤ tt)
+least-32 Q40Ggml = (lit≤ tt, lit≤ tt)
 least-32 Q50 = (lit≤ tt, lit≤ tt)
 least-32 Q80 = (lit≤ tt, lit≤ tt)
 

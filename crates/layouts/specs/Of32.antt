@@ -8,22 +8,28 @@ use lib.Ieee.{Float, binary32, mul, ofInt}
 use Rattle.halves.specs.Binary16.{widened}
 use Rattle.numbers.specs.Fields.{le16, le32, signed}
 use Rattle.layouts.specs.declared.format.Format32.{Format32}
-use Rattle.layouts.specs.declared.format.Format32.the-variants.{Q40, Q50, Q80}
+use Rattle.layouts.specs.declared.format.Format32.the-variants.{Q40, Q40Ggml, Q50, Q80}
 
 -- a byte's low nibble for 0, and its high nibble otherwise
 abbrev pub nibble : ℕ → ℕ → ℕ
 nibble b zero = b % 16
 nibble b (suc k) = b / 16
 
+-- The nibble at place j of 16 bytes from `at` on, each of which has two neighbours: byte k low place 2k and high 2k+1.
+abbrev pub nibbleBeside : List ℕ → ℕ → ℕ → ℕ
+nibbleBeside bs at j = nibble (getD bs (at + j / 2) 0) (j % 2)
+
 -- The nibble at place j of 16 bytes from `at` on, whose low nibbles are places 0 to 15 and whose high ones 16 to 31.
 abbrev pub nibbleApart : List ℕ → ℕ → ℕ → ℕ
 nibbleApart bs at j = nibble (getD bs (at + j % 16) 0) (j / 16)
 
 -- The whole number at place j. Q4_0: s, 16 bytes. Byte k gives value 2k from its low and 2k+1 from its high nibble,
--- less 8. Q5_0: s, a little-endian u32 of high bits, 16 bytes. Value j (below 16) is low nibble j plus 16 times high
--- bit j; value j+16 is high nibble j plus 16 times high bit j+16; less 16. Q8_0: s, 32 signed bytes.
+-- less 8. Q4_0 in GGML's order: s, 16 bytes. Byte k gives value k from its low and k+16 from its high nibble, less 8.
+-- Q5_0: s, a little-endian u32 of high bits, 16 bytes. Value j (below 16) is low nibble j plus 16 times high bit j;
+-- value j+16 is high nibble j plus 16 times high bit j+16; less 16. Q8_0: s, 32 signed bytes.
 unfoldable pub quant32 : Format32 → List ℕ → ℕ → ℤ
-quant32 Q40 bs j = pos (nibble (getD bs (2 + j / 2) 0) (j % 2)) -ℤ pos 8
+quant32 Q40 bs j = pos (nibbleBeside bs 2 j) -ℤ pos 8
+quant32 Q40Ggml bs j = pos (nibbleApart bs 2 j) -ℤ pos 8
 quant32 Q50 bs j = pos (nibbleApart bs 6 j + 16 * (le32 bs 2 / 2 ^ j % 2)) -ℤ pos 16
 quant32 Q80 bs j = signed (getD bs (2 + j) 0)
 

@@ -3,9 +3,10 @@
 ghost use mathlib.Core.Path.{_≡_};
 ghost use Rattle.layouts.specs.Formats.{bytes32, bytesK, blockBytes, blockValues, formatNamed};
 
-// The formats with 32 values to a block.
+// The formats with 32 values to a block. Q4_0 is in two orders: with neighbours paired in a byte, and in GGML's.
 pub enum Format32 {
     Q40,
+    Q40Ggml,
     Q50,
     Q80,
 }
@@ -27,6 +28,7 @@ fn bytes_32(format: Format32) -> usize
 {
     match format {
         Format32::Q40 => 18,
+        Format32::Q40Ggml => 18,
         Format32::Q50 => 22,
         Format32::Q80 => 34,
     }

@@ -31,6 +31,20 @@ fn quants_q4_0(block: &[u8]) -> [i8; 32]
     q
 }
 
+// The same in GGML's order: byte k's nibbles are at places k and k + 16.
+fn quants_q4_0_ggml(block: &[u8]) -> [i8; 32]
+    requires { ⌜ length (now block) ≡ 18 ⌝ }
+    ensures { λ r. ⌜ r ≡ table (quant32 Format32.Q40Ggml (now (block .entry))) 32 ⌝ }
+{
+    let mut q = [0i8; 32];
+    for k in 0..block.len() - 2 {
+        let b = block[2 + k];
+        q[k] = less(b % 16, 8);
+        q[k + 16] = less(b / 16, 8);
+    }
+    q
+}
+
 // A nibble with the lowest bit of h above it, less 16.
 fn with_high_bit(nibble: u8, h: u32) -> i8
     requires { ⌜ nibble < 16 ⌝ }
@@ -73,6 +87,7 @@ pub fn quants_32(format: Format32, block: &[u8]) -> [i8; 32]
 {
     match format {
         Format32::Q40 => quants_q4_0(block),
+        Format32::Q40Ggml => quants_q4_0_ggml(block),
         Format32::Q50 => quants_q5_0(block),
         Format32::Q80 => quants_q8_0(block),
     }

@@ -1,61 +1,50 @@
 -- The bytes of a block: the stored scale's two, and then the quants'. Assumes nothing.
-use mathlib.Core.Path.{_≡_, refl, sym, ap, _∙_}
+use mathlib.Core.Path.{_≡_, sym, ap, _∙_}
 use Prim.Native.Nat.{ℕ, suc, _+_, _-_, _*_, _/_, _%_, _<_}
-use native.Mathlib.Nat.{le-of-eq}
 use native.Mathlib.Omega.{arith}
 use mathlib.Core.List.{List, _++_}
 use lib.Arith.{digits-div, digits-mod}
 use lib.ListN.{length, getD, set, take, drop}
 use lib.Ieee.{Float, nan, binary32, mul}
 use Rattle.memory.specs.Lists.{table}
-use Rattle.memory.proofs.Filled.{Filling, filling-start, filling-more, filled-all, part-turn}
 use Rattle.numbers.specs.Fields.{byteOf}
 use Rattle.readings.specs.Readings.{inverse, quantQ8, quantQ40}
 use Rattle.layouts.specs.Formats.{bytes32}
-use Rattle.quantizers.specs.Blocks.{formatOf, scaleOf, storedScale, scaledReading, quantOf, quantByte, byteAt}
+use Rattle.layouts.proofs.Written.{block-written}
+use Rattle.quantizers.specs.Blocks.{formatOf, scaleOf, storedScale, scaledReading, quantOf, nibbles, quantByte, byteAt}
 use Rattle.quantizers.specs.Says.{packedAt}
 use Rattle.quantizers.specs.declared.target.Target.{Target}
-use Rattle.quantizers.specs.declared.target.Target.the-variants.{Q40, Q80}
+use Rattle.quantizers.specs.declared.target.Target.the-variants.{Q40, Q40Ggml, Q80}
 
-after-scale : (t : Target) (xs : List Float) (l : ℕ) → quantByte t xs l ≡ byteAt t xs (2 + l)
+pub after-scale : (t : Target) (xs : List Float) (l : ℕ) → quantByte t xs l ≡ byteAt t xs (2 + l)
 unfolding byteAt
 after-scale t xs l = let e : 2 + l ≡ suc (suc l) = omega arith in rw e
 
 -- what the writers of the quants put by the inverse, and that it is what the block has
 abbrev pub written : Target → List Float → Float → ℕ → ℕ
-written Q40 xs inv k = byteOf (quantQ40 (mul binary32 (getD xs (2 * k) nan) inv)) + 16 * byteOf (quantQ40 (mul binary32 (getD xs (2 * k + 1) nan) inv))
+written Q40 xs inv k = nibbles (quantQ40 (mul binary32 (getD xs (2 * k) nan) inv)) (quantQ40 (mul binary32 (getD xs (2 * k + 1) nan) inv))
+written Q40Ggml xs inv k = nibbles (quantQ40 (mul binary32 (getD xs k nan) inv)) (quantQ40 (mul binary32 (getD xs (k + 16) nan) inv))
 written Q80 xs inv k = byteOf (quantQ8 (mul binary32 (getD xs k nan) inv))
 
 written-is : (t : Target) (xs : List Float) (k : ℕ) → written t xs (inverse (scaleOf t xs)) k ≡ byteAt t xs (2 + k)
 unfolding quantByte quantOf scaledReading
 written-is Q40 xs k = after-scale Q40 xs k
+written-is Q40Ggml xs k = after-scale Q40Ggml xs k
 written-is Q80 xs k = after-scale Q80 xs k
 
--- the scale's two bytes are stored, and then the part behind them is filled by g
-module _ (t : Target) (xs : List Float) (out : List ℕ) (half size k : ℕ) (L : length out ≡ size) (S : size ≡ 2 + k) (h : half ≡ storedScale (scaleOf t xs)) where
-  scale-bytes : Filling (byteAt t xs) out size (set (set out 0 (half % 256)) 1 (half / 256)) 2
-  unfolding byteAt
-  scale-bytes =
-      let one = filling-more (byteAt t xs) out size out 0 (half % 256) L (filling-start (byteAt t xs) out size L) (omega arith) (ap (λ (n : ℕ). n % 256) h) in
-      filling-more (byteAt t xs) out size (set out 0 (half % 256)) 1 (half / 256) L one (omega arith) (ap (λ (n : ℕ). n / 256) h)
-
-  block-filled : (g : ℕ → ℕ) (ys : List ℕ) → ys ≡ table g k → ((l : ℕ) → g l ≡ byteAt t xs (2 + l))
-      → (let o = set (set out 0 (half % 256)) 1 (half / 256) in
-      (take 2 o ++ (ys ++ drop (size - 2) (drop 2 o)) ≡ table (byteAt t xs) size) × (length (take 2 o ++ (ys ++ drop (size - 2) (drop 2 o))) ≡ length out))
-  block-filled g ys e q =
-      let p = part-turn (byteAt t xs) g out (set (set out 0 (half % 256)) 1 (half / 256)) ys 2 k size size S refl (le-of-eq (sym L)) (scale-bytes .0) e (λ l u. q l) in
-      (p .0 ∙ filled-all (byteAt t xs) out size (le-of-eq L), p .1)
-
--- the same of the target u that the code was told of, by the scale d and the inverse that it computed
+-- the scale's two bytes, and then those of the target u that the code was told of, by the scale d and the inverse that it computed
 pub block-left : (t u : Target) (xs : List Float) (out ys : List ℕ) (half size k : ℕ) (d inv : Float) → t ≡ u → length out ≡ bytes32 (formatOf t) → bytes32 (formatOf u) ≡ size → size ≡ 2 + k
     → d ≡ scaleOf t xs → inv ≡ inverse d → half ≡ storedScale d → ys ≡ table (written u xs inv) k
-    → (let o = set (set out 0 (half % 256)) 1 (half / 256) in
-    (take 2 o ++ (ys ++ drop (size - 2) (drop 2 o)) ≡ table (byteAt t xs) (bytes32 (formatOf t))) × (length (take 2 o ++ (ys ++ drop (size - 2) (drop 2 o))) ≡ length out))
+    → (let o = set (set out 0 (half % 256)) 1 (half / 256) in take 2 o ++ (ys ++ drop (size - 2) (drop 2 o)) ≡ table (byteAt t xs) (bytes32 (formatOf t)))
+unfolding byteAt
 block-left t u xs out ys half size k d inv e L Z S D I H Y =
     let scale : d ≡ scaleOf u xs = D ∙ ap (λ (v : Target). scaleOf v xs) e in
+    let half-is : half ≡ storedScale (scaleOf u xs) = H ∙ ap storedScale scale in
     let by : (l : ℕ) → written u xs inv l ≡ byteAt u xs (2 + l) = λ l. ap (λ (i : Float). written u xs i l) (I ∙ ap inverse scale) ∙ written-is u xs l in
-    let p = block-filled u xs out half size k (L ∙ ap (λ (v : Target). bytes32 (formatOf v)) e ∙ Z) S (H ∙ ap storedScale scale) (written u xs inv) ys Y by in
-    (p .0 ∙ ap (table (byteAt u xs)) (sym Z) ∙ ap (λ (v : Target). table (byteAt v xs) (bytes32 (formatOf v))) (sym e), p .1)
+    let long : length out ≡ size = L ∙ ap (λ (v : Target). bytes32 (formatOf v)) e ∙ Z in
+    block-written size k S (byteAt u xs) (written u xs inv) out ys (half % 256) (half / 256) long (ap (λ (n : ℕ). n % 256) half-is) (ap (λ (n : ℕ). n / 256) half-is) Y by
+    ∙ ap (table (byteAt u xs)) (sym Z)
+    ∙ ap (λ (v : Target). table (byteAt v xs) (bytes32 (formatOf v))) (sym e)
 
 -- block b's byte at place l is the output's at place b * size + l
 pub placed : (t : Target) (xs : List Float) (b l size : ℕ) → size ≡ bytes32 (formatOf t) → l < size

@@ -8,6 +8,7 @@ use Rattle.quantizers.specs.declared.lost.Lost.{Lost}
 use Rattle.quantizers.specs.declared.lost.Packing.{Packing}
 use Rattle.quantizers.specs.declared.lost.Packing.the-variants as packing
 use Rattle.quantizers.proofs.blocks.quantize_q4_0.Reads as quantize-q4-0
+use Rattle.quantizers.proofs.blocks.quantize_q4_0_ggml.Reads as quantize-q4-0-ggml
 use Rattle.quantizers.proofs.blocks.quantize_q8_0.Reads as quantize-q8-0
 
 -- `packingSays` tells any two answers apart
@@ -23,6 +24,9 @@ one-packed x y h k = let e = both h k in (one-packing x y (e .0), e .1)
 
 pub quantize-q4-0-once : OneCall quantize-q4-0.Post (λ κs s. now (s .1 .0))
 quantize-q4-0-once κs a x y s t h k = one-packed x y h k
+
+pub quantize-q4-0-ggml-once : OneCall quantize-q4-0-ggml.Post (λ κs s. now (s .1 .0))
+quantize-q4-0-ggml-once κs a x y s t h k = one-packed x y h k
 
 pub quantize-q8-0-once : OneCall quantize-q8-0.Post (λ κs s. now (s .1 .0))
 quantize-q8-0-once κs a x y s t h k = one-packed x y h k

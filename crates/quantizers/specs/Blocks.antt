@@ -10,16 +10,22 @@ use Rattle.readings.specs.Readings.{largestValue, scaleQ8, inverse, quantQ8, qu
 use Rattle.layouts.specs.declared.format.Format32.{Format32}
 use Rattle.layouts.specs.declared.format.Format32.the-variants as format
 use Rattle.quantizers.specs.declared.target.Target.{Target}
-use Rattle.quantizers.specs.declared.target.Target.the-variants.{Q40, Q80}
+use Rattle.quantizers.specs.declared.target.Target.the-variants.{Q40, Q40Ggml, Q80}
 
 -- the format of a target's blocks, which has their size
 abbrev pub formatOf : Target → Format32
 formatOf Q40 = format.Q40
+formatOf Q40Ggml = format.Q40Ggml
 formatOf Q80 = format.Q80
 
--- d. Q4_0: the first value of largest magnitude over -8. Q8_0: that of Q8.
+-- Q4_0's d: the first value of largest magnitude over -8
+abbrev pub scaleQ40 : List Float → Float
+scaleQ40 xs = div binary32 (largestValue xs 32) (ofBits binary32 0xc100_0000)
+
+-- d. Q4_0: one for both of its orders. Q8_0: that of Q8.
 unfoldable pub scaleOf : Target → List Float → Float
-scaleOf Q40 xs = div binary32 (largestValue xs 32) (ofBits binary32 0xc100_0000)
+scaleOf Q40 xs = scaleQ40 xs
+scaleOf Q40Ggml xs = scaleQ40 xs
 scaleOf Q80 xs = scaleQ8 xs
 
 -- the stored scale is `f32_to_f16` of d
@@ -33,12 +39,18 @@ scaledReading t xs i = mul binary32 (getD xs i nan) (inverse (scaleOf t xs))
 -- the quant of reading i
 unfoldable pub quantOf : Target → List Float → ℕ → ℤ
 quantOf Q40 xs i = quantQ40 (scaledReading Q40 xs i)
+quantOf Q40Ggml xs i = quantQ40 (scaledReading Q40Ggml xs i)
 quantOf Q80 xs i = quantQ8 (scaledReading Q80 xs i)
 
--- byte k after the scale. Q4_0: the quants of readings 2k and 2k+1 in its low and its high nibble. Q8_0: that of
--- reading k.
+-- two quants of Q4_0 in one byte: the first in its low and the second in its high nibble
+abbrev pub nibbles : ℤ → ℤ → ℕ
+nibbles low high = byteOf low + 16 * byteOf high
+
+-- byte k after the scale. Q4_0: the quants of readings 2k and 2k+1. Q4_0 in GGML's order: those of readings k and k+16.
+-- Q8_0: that of reading k.
 unfoldable pub quantByte : Target → List Float → ℕ → ℕ
-quantByte Q40 xs k = byteOf (quantOf Q40 xs (2 * k)) + 16 * byteOf (quantOf Q40 xs (2 * k + 1))
+quantByte Q40 xs k = nibbles (quantOf Q40 xs (2 * k)) (quantOf Q40 xs (2 * k + 1))
+quantByte Q40Ggml xs k = nibbles (quantOf Q40Ggml xs k) (quantOf Q40Ggml xs (k + 16))
 quantByte Q80 xs k = byteOf (quantOf Q80 xs k)
 
 -- byte p of a block: the stored scale, little-endian, and then the quants

@@ -11,7 +11,7 @@ ghost use Rattle.halves.specs.How.{narrowing};
 ghost use Rattle.numbers.specs.Fields.{byteOf};
 ghost use Rattle.layouts.specs.Formats.{bytes32};
 ghost use Rattle.readings.specs.Readings.{quantQ8, quantQ40};
-ghost use Rattle.quantizers.specs.Blocks.{formatOf, scaleOf, byteAt};
+ghost use Rattle.quantizers.specs.Blocks.{formatOf, scaleOf, nibbles, byteAt};
 ghost use Rattle.quantizers.specs.Lost.{scaleFares};
 
 // The scale that a block gets: d.
@@ -20,7 +20,7 @@ fn scale_of(target: Target, x: &[f32]) -> f32
     ensures { λ r. ⌜ r ≡ scaleOf target (now (x .entry)) ⌝ }
 {
     match target {
-        Target::Q40 => readings::largest_value(x) / -8.0,
+        Target::Q40 | Target::Q40Ggml => readings::largest_value(x) / -8.0,
         Target::Q80 => readings::scale_q8(x),
     }
 }
@@ -32,17 +32,36 @@ fn stored_scale(d: f32) -> Narrowed
     halves::f32_to_f16(halves::bits_of(d))
 }
 
+// The quants of two readings, scaled, in one byte of Q4_0.
+fn nibbles_of(first: f32, second: f32) -> u8
+    ensures { λ r. ⌜ r ≡ nibbles (quantQ40 first) (quantQ40 second) ⌝ }
+{
+    let low = readings::round_q4_0(first);
+    let high = readings::round_q4_0(second);
+    low + 16 * high
+}
+
 // Q4_0's quants: those of readings 2k and 2k+1 share byte k.
 fn write_quants_q4_0(x: &[f32], inverse: f32, out: &mut [u8])
     requires { ⌜ (length (now x) ≡ 32) × (length (now out) ≡ 16) ⌝ }
     ensures { λ _. ⌜ now (out .exit)
-        ≡ table (λ k. byteOf (quantQ40 (mul binary32 (getD (now (x .entry)) (2 * k) nan) inverse))
-        + 16 * byteOf (quantQ40 (mul binary32 (getD (now (x .entry)) (2 * k + 1) nan) inverse))) 16 ⌝ }
+        ≡ table (λ k. nibbles (quantQ40 (mul binary32 (getD (now (x .entry)) (2 * k) nan) inverse))
+        (quantQ40 (mul binary32 (getD (now (x .entry)) (2 * k + 1) nan) inverse))) 16 ⌝ }
 {
     for k in 0..16usize {
-        let low = readings::round_q4_0(x[2 * k] * inverse);
-        let high = readings::round_q4_0(x[2 * k + 1] * inverse);
-        out[k] = low + 16 * high;
+        out[k] = nibbles_of(x[2 * k] * inverse, x[2 * k + 1] * inverse);
+    }
+}
+
+// The same in GGML's order: those of readings k and k+16 share byte k.
+fn write_quants_q4_0_ggml(x: &[f32], inverse: f32, out: &mut [u8])
+    requires { ⌜ (length (now x) ≡ 32) × (length (now out) ≡ 16) ⌝ }
+    ensures { λ _. ⌜ now (out .exit)
+        ≡ table (λ k. nibbles (quantQ40 (mul binary32 (getD (now (x .entry)) k nan) inverse))
+        (quantQ40 (mul binary32 (getD (now (x .entry)) (k + 16) nan) inverse))) 16 ⌝ }
+{
+    for k in 0..16usize {
+        out[k] = nibbles_of(x[k] * inverse, x[k + 16] * inverse);
     }
 }
 
@@ -71,6 +90,7 @@ pub fn quantize_block(target: Target, x: &[f32], out: &mut [u8]) -> How
     out[1] = (half / 256) as u8;
     match target {
         Target::Q40 => write_quants_q4_0(x, inverse, &mut out[2..18]),
+        Target::Q40Ggml => write_quants_q4_0_ggml(x, inverse, &mut out[2..18]),
         Target::Q80 => write_quants_q8_0(x, inverse, &mut out[2..34]),
     }
     stored.how

@@ -76,6 +76,14 @@ pub fn quantize_q4_0(x: &[f32], out: &mut [u8]) -> Packing
     quantize(Target::Q40, x, out)
 }
 
+// The readings as Q4_0 blocks in GGML's order, and what their scales lost. Refuses 6, 2 and 5, in this order.
+pub fn quantize_q4_0_ggml(x: &[f32], out: &mut [u8]) -> Packing
+    ensures { λ r. ⌜ (packingSays r, now (out .exit))
+        ≡ quantizeSays Target.Q40Ggml (now (x .entry)) (now (out .entry)) ⌝ }
+{
+    quantize(Target::Q40Ggml, x, out)
+}
+
 // The readings as Q8_0 blocks, and what their scales lost. Refuses 6, 2 and 5, in this order.
 pub fn quantize_q8_0(x: &[f32], out: &mut [u8]) -> Packing
     ensures { λ r. ⌜ (packingSays r, now (out .exit)) ≡ quantizeSays Target.Q80 (now (x .entry)) (now (out .entry)) ⌝ }

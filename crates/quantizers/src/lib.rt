@@ -5,6 +5,7 @@ mod lost;
 mod target;
 
 pub use blocks::quantize_q4_0;
+pub use blocks::quantize_q4_0_ggml;
 pub use blocks::quantize_q8_0;
 pub use lost::Lost;
 pub use lost::Packing;

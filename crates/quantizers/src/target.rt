@@ -6,6 +6,7 @@ ghost use Rattle.quantizers.specs.Blocks.{formatOf};
 // The formats that have a quantizer: of those with 32 values to a block Q5_0 has none.
 pub enum Target {
     Q40,
+    Q40Ggml,
     Q80,
 }
 
@@ -15,6 +16,7 @@ pub fn format_of(target: Target) -> Format32
 {
     match target {
         Target::Q40 => Format32::Q40,
+        Target::Q40Ggml => Format32::Q40Ggml,
         Target::Q80 => Format32::Q80,
     }
 }

@@ -5,6 +5,7 @@ use crate::stepped_layer::judge_history;
 use replay_answers::Finding;
 use replay_calls::judge_activation_block;
 use replay_calls::judge_binary16;
+use replay_calls::judge_block_converter;
 use replay_calls::judge_block_decoder;
 use replay_calls::judge_block_quantizer;
 use replay_calls::judge_fixed_order_sum;
@@ -29,6 +30,10 @@ pub fn judge(tag: u8, payload: &[u8]) -> Finding {
         31 => judge_activation_block(tag, payload),
         32 => judge_row_dot(tag, payload),
         33..=35 => judge_layer(tag, payload),
+        36 => judge_block_decoder(tag, payload),
+        37 => judge_block_quantizer(tag, payload),
+        38 => judge_layer(tag, payload),
+        39..=40 => judge_block_converter(tag, payload),
         NAME => {
             print_name(payload);
             Finding::Name

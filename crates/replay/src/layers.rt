@@ -26,6 +26,7 @@ enum Layer {
     Q4kCpu,
     Q6kCpu,
     Q40Cpu,
+    Q40GgmlCpu,
 }
 
 // The `_cpu` layers alone use scratch.
@@ -53,6 +54,7 @@ fn outcome(
         Layer::Q4kCpu => layers_cpu::linear_q4_k_cpu(x, w, y, scratch, batch, n, outs),
         Layer::Q6kCpu => layers_cpu::linear_q6_k_cpu(x, w, y, scratch, batch, n, outs),
         Layer::Q40Cpu => layers_cpu::linear_q4_0_cpu(x, w, y, scratch, batch, n, outs),
+        Layer::Q40GgmlCpu => layers_cpu::linear_q4_0_ggml_cpu(x, w, y, scratch, batch, n, outs),
     }
 }
 
@@ -140,6 +142,7 @@ pub fn judge_layer(tag: u8, payload: &[u8]) -> Finding {
         33 => judge(Layer::Q5kFused, payload),
         34 => judge(Layer::Q5kInteger, payload),
         35 => judge(Layer::Q5kIntegerRs, payload),
+        38 => judge(Layer::Q40GgmlCpu, payload),
         _ => Finding::Unknown,
     }
 }

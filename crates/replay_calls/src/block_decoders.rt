@@ -12,6 +12,7 @@ const ROOM: usize = 513;
 
 enum Decoder {
     Q40,
+    Q40Ggml,
     Q50,
     Q80,
     Q4k,
@@ -22,6 +23,7 @@ enum Decoder {
 fn dequantize(decoder: Decoder, bytes: &[u8], out: &mut [f32]) -> Outcome {
     match decoder {
         Decoder::Q40 => decoders::dequantize_q4_0(bytes, out),
+        Decoder::Q40Ggml => decoders::dequantize_q4_0_ggml(bytes, out),
         Decoder::Q50 => decoders::dequantize_q5_0(bytes, out),
         Decoder::Q80 => decoders::dequantize_q8_0(bytes, out),
         Decoder::Q4k => decoders::dequantize_q4_k(bytes, out),
@@ -75,6 +77,7 @@ pub fn judge_block_decoder(tag: u8, payload: &[u8]) -> Finding {
         5 => judge_dequantize(Decoder::Q4k, payload),
         6 => judge_dequantize(Decoder::Q6k, payload),
         29 => judge_dequantize(Decoder::Q5k, payload),
+        36 => judge_dequantize(Decoder::Q40Ggml, payload),
         _ => Finding::Unknown,
     }
 }

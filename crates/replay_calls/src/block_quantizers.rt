@@ -12,13 +12,14 @@ use replay_answers::u32_at;
 // The places of an output at most: two blocks of Q8_0, and one place more.
 const ROOM: usize = 69;
 // What stands in each of them before the call.
-const STOOD: u8 = 0xEE;
+pub(crate) const STOOD: u8 = 0xEE;
 // The readings at most: two blocks, and one reading more.
 const READINGS: usize = 65;
 
 fn quantize(target: Target, data: &[f32], out: &mut [u8]) -> Packing {
     match target {
         Target::Q40 => quantizers::quantize_q4_0(data, out),
+        Target::Q40Ggml => quantizers::quantize_q4_0_ggml(data, out),
         Target::Q80 => quantizers::quantize_q8_0(data, out),
     }
 }
@@ -92,6 +93,7 @@ pub fn judge_block_quantizer(tag: u8, payload: &[u8]) -> Finding {
     match tag {
         11 => judge_quantize(Target::Q40, payload),
         12 => judge_quantize(Target::Q80, payload),
+        37 => judge_quantize(Target::Q40Ggml, payload),
         _ => Finding::Unknown,
     }
 }

@@ -15,13 +15,13 @@ use Rattle.layouts.proofs.of32.quants_q5_0.Statement.{statement}
 use Rattle.layouts.proofs.of32.quants_q5_0.Tie as tie
 
 abbrev Inv-loop : tie.InvT-loop
-Inv-loop block high q₀ k₀ q k = Pairs (λ i. i % 16) (quant32 Q50 block) (pos 0) q k
+Inv-loop block high q₀ k₀ q k = Pairs 16 (λ i. i % 16) (quant32 Q50 block) (pos 0) q k
 
 abbrev μ-loop : tie.MeasureT-loop
 μ-loop block high q₀ k₀ q k = 16 - k
 
 loop-holds : tie.Need-loop-holds Inv-loop μ-loop
-loop-holds c = pairs-none (λ i. i % 16) (quant32 Q50 (c .before .before .before .before .before .before .args .block .now)) (pos 0) (replicate 32 (pos 0)) refl
+loop-holds c = pairs-none 16 (λ i. i % 16) (quant32 Q50 (c .before .before .before .before .before .before .args .block .now)) (pos 0) (replicate 32 (pos 0)) refl
 
 with-high-bit-requires-2 : tie.Need-with-high-bit-requires-2 Inv-loop μ-loop
 with-high-bit-requires-2 c κs = omega (arith, c .before .shared-slice-known6 .given (6 + c .before .before .before .loop .k))
@@ -33,14 +33,14 @@ loop-again c =
     let k = m .loop .k in
     let h : k < 16 = c .before .before .before .loop-test .taken in
     let e : m .before .le-u32 .result ≡ le32 bs 2 = m .before .le-u32 .ensures in
-    pairs-more (λ i. i % 16) (quant32 Q50 bs) (pos 0) (m .loop .q) k _ _ h
+    pairs-more 16 (λ i. i % 16) (quant32 Q50 bs) (pos 0) (m .loop .q) k _ _ h
     (byte-read (c .before .with-high-bit .ok) (rw e at (c .before .with-high-bit .ensures)) (q50-at bs k _ (apart-low bs 6 k h)))
-    (byte-read (c .with-high-bit2 .ok) (rw e at (c .with-high-bit2 .ensures)) (q50-at bs (k + 16) _ (apart-high bs 6 k h))) (own-halves k) (m .loop .inv)
+    (byte-read (c .with-high-bit2 .ok) (rw e at (c .with-high-bit2 .ensures)) (q50-at bs (k + 16) _ (apart-high bs 6 k h))) (own-halves 16 k) (m .loop .inv)
 
 returns : tie.Need-returns Inv-loop μ-loop
 returns c =
     let l = c .before .loop in
-    pairs-all (λ i. i % 16) (quant32 Q50 (c .before .before .before .before .before .before .before .before .args .block .now)) (pos 0) (l .q) (l .k) (c .loop-test .left) (λ i h. omega arith) (l .inv)
+    pairs-all 16 (λ i. i % 16) (quant32 Q50 (c .before .before .before .before .before .before .before .before .args .block .now)) (pos 0) (l .q) (l .k) (c .loop-test .left) (λ i h. omega arith) (l .inv)
 
 pub quants-q5-0-spec : {M : Type 1} → statement M
 quants-q5-0-spec =

@@ -1,7 +1,6 @@
 -- `block::write_quants_q4_0` meets its contract: the places are filled in turn. Assumes nothing.
 use mathlib.Core.Path.{sym, _∙_}
 use Prim.Native.Nat.{_-_}
-use Rattle.readings.proofs.Held.{q40-nibble}
 use Rattle.memory.proofs.Filled.{Filling, filling-start, filling-more, filling-done}
 use native.Mathlib.Omega.{arith}
 use borrow.Author.Needs.{needs}
@@ -19,18 +18,11 @@ abbrev μ-loop : tie.MeasureT-loop
 loop-holds : tie.Need-loop-holds Inv-loop μ-loop
 loop-holds c = filling-start (written Q40 (c .before .before .args .x .now) (c .before .before .args .inverse)) (c .before .before .args .out .now) 16 (c .before .before .pre .1)
 
-mul-out : tie.Need-mul-out Inv-loop μ-loop
-mul-out c = omega (arith, q40-nibble _ _ (c .round-q4-02 .ensures))
-
-add-out : tie.Need-add-out Inv-loop μ-loop
-add-out c = omega (arith, q40-nibble _ _ (c .round-q4-02 .ensures), q40-nibble _ _ (c .before .before .round-q4-0 .ensures))
-
 loop-again : tie.Need-loop-again Inv-loop μ-loop
 loop-again c =
-    let l = c .before .before .before .before .before .loop in
-    let t = c .before .before .before .before .before .before .before .before in
-    filling-more (written Q40 (t .args .x .now) (t .args .inverse)) (t .args .out .now) 16 (l .out) (l .k) _ (t .pre .1) (l .inv) (c .before .before .before .before .loop-test .taken)
-    (rw (← c .round-q4-02 .ensures, ← c .before .before .round-q4-0 .ensures))
+    let l = c .before .before .before .before .loop in
+    let t = c .before .before .before .before .before .before .before in
+    filling-more (written Q40 (t .args .x .now) (t .args .inverse)) (t .args .out .now) 16 (l .out) (l .k) _ (t .pre .1) (l .inv) (c .before .before .before .loop-test .taken) (c .nibbles-of .ensures)
 
 same-length : tie.Need-same-length Inv-loop μ-loop
 same-length c = c .before .loop .inv .2 ∙ sym (c .before .before .before .before .pre .1)
@@ -51,14 +43,11 @@ write-quants-q4-0-spec =
     (λ c. omega arith)
     (λ c. omega arith)
     (λ c. omega arith)
-    (λ c κs. search needs)
     (λ c. omega arith)
     (λ c. omega arith)
     (λ c. omega arith)
     (λ c. omega arith)
     (λ c κs. search needs)
-    mul-out
-    add-out
     (λ c. omega arith)
     (λ c. omega arith)
     (λ c. omega arith)
