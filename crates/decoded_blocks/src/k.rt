@@ -28,8 +28,8 @@ fn decode_sub_blocks(block: &[u8], q: &[u8], out: &mut [f32])
     ensures { λ _. ⌜ now (out .exit)
         ≡ table (λ i. valueOf FormatK.Q4K (now (block .entry)) i (pos (getD (now (q .entry)) i 0))) 256 ⌝ }
 {
-    let scales = k_layouts::scales_q4k(block);
-    let minimums = k_layouts::minimums_q4k(block);
+    let scales = k_scales::scales_q4k(block);
+    let minimums = k_scales::minimums_q4k(block);
     for e in 0..16usize {
         let at = 16 * e;
         let end = at + 16;
@@ -48,7 +48,7 @@ fn decode_runs(block: &[u8], q: &[i8], out: &mut [f32])
     ensures { λ _. ⌜ now (out .exit)
         ≡ table (λ i. valueOf FormatK.Q6K (now (block .entry)) i (getD (now (q .entry)) i (pos 0))) 256 ⌝ }
 {
-    let scales = k_layouts::scales_q6k(block);
+    let scales = k_scales::scales_q6k(block);
     for e in 0..16usize {
         let at = 16 * e;
         let end = at + 16;
@@ -65,14 +65,14 @@ pub fn decode_k(format: FormatK, block: &[u8], out: &mut [f32])
     match format {
         FormatK::Q4K | FormatK::Q5K => {
             let q = if let FormatK::Q5K = format {
-                k_layouts::quants_q5k(block)
+                k_quants::quants_q5k(block)
             } else {
-                k_layouts::quants_q4k(block)
+                k_quants::quants_q4k(block)
             };
             decode_sub_blocks(block, &q, out)
         }
         FormatK::Q6K => {
-            let q = k_layouts::quants_q6k(block);
+            let q = k_quants::quants_q6k(block);
             decode_runs(block, &q, out)
         }
     }

@@ -17,14 +17,14 @@ pub fn add_block(format: FormatK, l: [f32; 8], x: &[f32], block: &[u8]) -> [f32;
 {
     match format {
         FormatK::Q4K | FormatK::Q5K => {
-            let scales = k_layouts::scales_q4k(block);
-            let minimums = k_layouts::minimums_q4k(block);
+            let scales = k_scales::scales_q4k(block);
+            let minimums = k_scales::minimums_q4k(block);
             let mut out = l;
             if let FormatK::Q5K = format {
                 add_sub_blocks(
                     &mut out,
                     x,
-                    &k_layouts::quants_q5k(block),
+                    &k_quants::quants_q5k(block),
                     &scales,
                     &minimums,
                 );
@@ -32,7 +32,7 @@ pub fn add_block(format: FormatK, l: [f32; 8], x: &[f32], block: &[u8]) -> [f32;
                 add_sub_blocks(
                     &mut out,
                     x,
-                    &k_layouts::quants_q4k(block),
+                    &k_quants::quants_q4k(block),
                     &scales,
                     &minimums,
                 );
@@ -40,7 +40,7 @@ pub fn add_block(format: FormatK, l: [f32; 8], x: &[f32], block: &[u8]) -> [f32;
             out
         }
         FormatK::Q6K => {
-            let q = k_layouts::quants_q6k(block);
+            let q = k_quants::quants_q6k(block);
             add_runs(l, x, block, &q)
         }
     }

@@ -43,7 +43,7 @@ pub(crate) fn add_runs(l: [f32; 8], x: &[f32], block: &[u8], q: &[i8]) -> [f32; 
     ensures { λ r. ⌜ r ≡ lanesFrom l
         (blockTerms FormatK.Q6K (now (x .entry)) (now (block .entry)) (λ i. getD (now (q .entry)) i (pos 0))) 256 ⌝ }
 {
-    let scales = k_layouts::scales_q6k(block);
+    let scales = k_scales::scales_q6k(block);
     let mut out = l;
     for e in 0..16usize {
         let at = 16 * e;

@@ -67,14 +67,14 @@ pub fn block_dot(format: FormatK, w: &[u8], d: f32, qs: &[i8], sums: &[i32]) -> 
     match format {
         FormatK::Q4K | FormatK::Q5K => {
             let q = if let FormatK::Q5K = format {
-                k_layouts::quants_q5k(w)
+                k_quants::quants_q5k(w)
             } else {
-                k_layouts::quants_q4k(w)
+                k_quants::quants_q4k(w)
             };
             dot_of_sub_blocks(w, &q, d, qs, sums)
         }
         FormatK::Q6K => {
-            let q = k_layouts::quants_q6k(w);
+            let q = k_quants::quants_q6k(w);
             dot_of_runs(w, &q, d, qs)
         }
     }

@@ -86,7 +86,7 @@ fn lanes_of(w: &[u8], p: &[i16; 128]) -> [i32; 8]
 {
     let mut lanes = [0i32; 8];
     for j in 0..8usize {
-        let scale = k_layouts::scale_q4k(w, j);
+        let scale = k_scales::scale_q4k(w, j);
         let low = 16 * j;
         let high = low + 8;
         for l in 0..8usize {
@@ -164,7 +164,7 @@ pub(crate) fn minimum_sum(w: &[u8], sums: &[i32]) -> i32
 {
     let mut m: i32 = 0;
     for j in 0..8usize {
-        m += weighed(k_layouts::minimum_q4k(w, j) as i8, sums[j]);
+        m += weighed(k_scales::minimum_q4k(w, j) as i8, sums[j]);
     }
     m
 }

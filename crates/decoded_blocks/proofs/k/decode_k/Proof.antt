@@ -10,7 +10,7 @@ use Rattle.layouts.specs.declared.format.FormatK.the-variants.{Q4K, Q5K, Q6K}
 use Rattle.layouts.specs.declared.format.Format.the-variants.{OfK}
 use Rattle.layouts.proofs.Sizes.{sizes}
 use Rattle.layouts.proofs.Minimums.{with-minimums, left-q4k}
-use Rattle.k_layouts.proofs.LaidOut.{laid-out-at, Laid, laid}
+use Rattle.k_quants.proofs.LaidOut.{laid-out-at, Laid, laid}
 use Rattle.decoded_blocks.proofs.Runs.{of-laid-out}
 use Rattle.decoded_blocks.proofs.k.decode_k.Statement.{statement}
 use Rattle.decoded_blocks.proofs.k.decode_k.Tie as tie

@@ -8,7 +8,7 @@ use Rattle.layouts.specs.declared.format.FormatK.the-variants.{Q4K, Q5K, Q6K}
 use Rattle.layouts.specs.declared.format.Format.the-variants.{OfK}
 use Rattle.layouts.proofs.Sizes.{sizes}
 use Rattle.layouts.proofs.Minimums.{with-minimums, left-q4k}
-use Rattle.k_layouts.proofs.LaidOut.{laid-out-at}
+use Rattle.k_quants.proofs.LaidOut.{laid-out-at}
 use Rattle.dots_fused_block.proofs.Grown.{laid-out, scaled-out}
 use borrow.Author.Needs.{needs}
 use Rattle.dots_fused_block.proofs.block.add_block.Statement.{statement}

@@ -5,10 +5,10 @@ use lib.ListN.{getD, replicate}
 use native.Mathlib.Omega.{arith}
 use Rattle.layouts.specs.Of32.{nibble}
 use Rattle.layouts.specs.K.{quantQ4K}
-use Rattle.k_layouts.proofs.Eight.{Streamed, streamed-none, streamed-more, streamed-all}
+use Rattle.k_quants.proofs.Eight.{Streamed, streamed-none, streamed-more, streamed-all}
 use Rattle.layouts.proofs.Quants.{q4k-at}
-use Rattle.k_layouts.proofs.k.quants_q4k.Statement.{statement}
-use Rattle.k_layouts.proofs.k.quants_q4k.Tie as tie
+use Rattle.k_quants.proofs.k.quants_q4k.Statement.{statement}
+use Rattle.k_quants.proofs.k.quants_q4k.Tie as tie
 
 abbrev Inv-loop : tie.InvT-loop
 Inv-loop block q₀ l₀ q l = Streamed (quantQ4K block) 0 q l

@@ -1,9 +1,9 @@
 -- `k::minimum_q4k` meets its contract. Assumes nothing.
 use Prim.Native.Nat.{_+_}
 use native.Mathlib.Omega.{arith}
-use Rattle.k_layouts.proofs.Scales.{minimum-low, minimum-high}
-use Rattle.k_layouts.proofs.k.minimum_q4k.Statement.{statement}
-use Rattle.k_layouts.proofs.k.minimum_q4k.Tie as tie
+use Rattle.k_scales.proofs.Scales.{minimum-low, minimum-high}
+use Rattle.k_scales.proofs.k.minimum_q4k.Statement.{statement}
+use Rattle.k_scales.proofs.k.minimum_q4k.Tie as tie
 
 mul-result : tie.Need-mul-result
 mul-result c = omega (arith, c .shared-slice-known3 .given (4 + c .before .before .before .args .j))

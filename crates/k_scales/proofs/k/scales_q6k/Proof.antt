@@ -9,8 +9,8 @@ use borrow.Author.Needs.{needs}
 use Rattle.layouts.specs.K.{scaleQ6K, dScale}
 use Rattle.layouts.specs.declared.format.FormatK.the-variants.{Q6K}
 use Rattle.memory.proofs.Filled.{Filling, filling-start, filling-more, filling-done}
-use Rattle.k_layouts.proofs.k.scales_q6k.Statement.{statement}
-use Rattle.k_layouts.proofs.k.scales_q6k.Tie as tie
+use Rattle.k_scales.proofs.k.scales_q6k.Statement.{statement}
+use Rattle.k_scales.proofs.k.scales_q6k.Tie as tie
 
 abbrev Inv-loop : tie.InvT-loop
 Inv-loop block d s₀ e₀ s e = Filling (dScale Q6K block) s₀ 16 s e

@@ -1,63 +1,11 @@
-// The whole numbers and the scales of the K formats, 256 values to a block.
-use layouts::FormatK;
+// The whole numbers of the K formats, 256 values to a block.
 use layouts::less;
 ghost use mathlib.Core.Path.{_≡_};
-ghost use Prim.Native.Nat.{_+_, _*_, _≤_, _<_};
+ghost use Prim.Native.Nat.{_+_, _*_, _<_};
 ghost use lib.IntN.{pos, _-ℤ_};
 ghost use lib.ListN.{length};
 ghost use Rattle.memory.specs.Lists.{table};
-ghost use Rattle.layouts.specs.K.{scaleQ4K, minimumQ4K, quantQ4K, quantQ5K, quantQ6K, dScale, dminMinimum};
-
-// The scale of Q4_K's sub-block j, six bits. It and what else is read of the first 16 bytes serves every format with
-// minimums.
-pub fn scale_q4k(block: &[u8], j: usize) -> u8
-    requires { ⌜ (16 ≤ length (now block)) × (j < 8) ⌝ }
-    ensures { λ r. ⌜ (r ≡ scaleQ4K (now (block .entry)) j) × (r < 64) ⌝ }
-{
-    if j < 4 {
-        block[4 + j] % 64
-    } else {
-        block[8 + j] % 16 + 16 * (block[j] / 64)
-    }
-}
-
-// The minimum of Q4_K's sub-block j, six bits.
-pub fn minimum_q4k(block: &[u8], j: usize) -> u8
-    requires { ⌜ (16 ≤ length (now block)) × (j < 8) ⌝ }
-    ensures { λ r. ⌜ (r ≡ minimumQ4K (now (block .entry)) j) × (r < 64) ⌝ }
-{
-    if j < 4 {
-        block[8 + j] % 64
-    } else {
-        block[8 + j] / 16 + 16 * (block[4 + j] / 64)
-    }
-}
-
-// Q4_K's eight products d*scale.
-pub fn scales_q4k(block: &[u8]) -> [f32; 8]
-    requires { ⌜ 16 ≤ length (now block) ⌝ }
-    ensures { λ r. ⌜ r ≡ table (dScale FormatK.Q4K (now (block .entry))) 8 ⌝ }
-{
-    let d = halves::f16_to_f32(numbers::le_u16(block[0], block[1]));
-    let mut s = [0.0f32; 8];
-    for j in 0..8usize {
-        s[j] = d * scale_q4k(block, j) as f32;
-    }
-    s
-}
-
-// Q4_K's eight products dmin*minimum.
-pub fn minimums_q4k(block: &[u8]) -> [f32; 8]
-    requires { ⌜ 16 ≤ length (now block) ⌝ }
-    ensures { λ r. ⌜ r ≡ table (dminMinimum (now (block .entry))) 8 ⌝ }
-{
-    let dmin = halves::f16_to_f32(numbers::le_u16(block[2], block[3]));
-    let mut m = [0.0f32; 8];
-    for j in 0..8usize {
-        m[j] = dmin * minimum_q4k(block, j) as f32;
-    }
-    m
-}
+ghost use Rattle.layouts.specs.K.{quantQ4K, quantQ5K, quantQ6K};
 
 // Q4_K's 256 whole numbers, one of each sub-block a turn: eight streams, which are vectors.
 pub fn quants_q4k(block: &[u8]) -> [u8; 256]
@@ -137,17 +85,4 @@ pub fn quants_q6k(block: &[u8]) -> [i8; 256]
         q[224 + l] = six_bits(d / 16, g / 64 % 4);
     }
     q
-}
-
-// Q6_K's sixteen products d*scale, one for each run of 16.
-pub fn scales_q6k(block: &[u8]) -> [f32; 16]
-    requires { ⌜ length (now block) ≡ 210 ⌝ }
-    ensures { λ r. ⌜ r ≡ table (dScale FormatK.Q6K (now (block .entry))) 16 ⌝ }
-{
-    let d = halves::f16_to_f32(numbers::le_u16(block[208], block[209]));
-    let mut s = [0.0f32; 16];
-    for e in 0..16usize {
-        s[e] = d * numbers::signed_byte(block[192 + e]) as f32;
-    }
-    s
 }

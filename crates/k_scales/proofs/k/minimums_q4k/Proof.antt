@@ -1,39 +1,38 @@
--- `k::scales_q4k` meets its contract: the places are filled in turn. Assumes nothing.
+-- `k::minimums_q4k` meets its contract: the places are filled in turn. Assumes nothing.
 use mathlib.Core.Path.{refl, ap, _∙_}
 use Prim.Native.Nat.{_-_}
 use Rattle.halves.specs.Binary16.{widened}
 use native.Mathlib.Omega.{arith}
 use borrow.Author.Needs.{needs}
-use Rattle.layouts.specs.K.{dScale}
-use Rattle.layouts.specs.declared.format.FormatK.the-variants.{Q4K}
+use Rattle.layouts.specs.K.{dminMinimum}
 use Rattle.memory.proofs.Filled.{Filling, filling-start, filling-more, filling-done}
-use Rattle.k_layouts.proofs.k.scales_q4k.Statement.{statement}
-use Rattle.k_layouts.proofs.k.scales_q4k.Tie as tie
+use Rattle.k_scales.proofs.k.minimums_q4k.Statement.{statement}
+use Rattle.k_scales.proofs.k.minimums_q4k.Tie as tie
 
 abbrev Inv-loop : tie.InvT-loop
-Inv-loop block d s₀ j₀ s j = Filling (dScale Q4K block) s₀ 8 s j
+Inv-loop block dmin m₀ j₀ m j = Filling (dminMinimum block) m₀ 8 m j
 
 abbrev μ-loop : tie.MeasureT-loop
-μ-loop block d s₀ j₀ s j = 8 - j
+μ-loop block dmin m₀ j₀ m j = 8 - j
 
 loop-holds : tie.Need-loop-holds Inv-loop μ-loop
-loop-holds c = filling-start (dScale Q4K (c .before .before .before .before .before .args .block .now)) _ 8 refl
+loop-holds c = filling-start (dminMinimum (c .before .before .before .before .before .args .block .now)) _ 8 refl
 
 loop-again : tie.Need-loop-again Inv-loop μ-loop
 loop-again c =
     let l = c .before .before .before .loop in
     let f = c .before .before .before .before in
     let t = f .before .before .before .before .before in
-    filling-more (dScale Q4K (t .args .block .now)) _ 8 (l .s) (l .j) _ refl (l .inv) (c .before .before .loop-test .taken)
-    (rw (f .f16-to-f32 .ensures ∙ ap widened (f .before .le-u16 .ensures), c .before .scale-q4k .ensures .0))
+    filling-more (dminMinimum (t .args .block .now)) _ 8 (l .m) (l .j) _ refl (l .inv) (c .before .before .loop-test .taken)
+    (rw (f .f16-to-f32 .ensures ∙ ap widened (f .before .le-u16 .ensures), c .before .minimum-q4k .ensures .0))
 
 returns : tie.Need-returns Inv-loop μ-loop
 returns c =
     let l = c .before .loop in
-    filling-done (dScale Q4K (c .before .before .before .before .before .before .before .args .block .now)) _ 8 (l .s) (l .j) refl (l .inv) (c .loop-test .left)
+    filling-done (dminMinimum (c .before .before .before .before .before .before .before .args .block .now)) _ 8 (l .m) (l .j) refl (l .inv) (c .loop-test .left)
 
-pub scales-q4k-spec : {M : Type 1} → statement M
-scales-q4k-spec =
+pub minimums-q4k-spec : {M : Type 1} → statement M
+minimums-q4k-spec =
     tie.close
     (tie.spec
     Inv-loop

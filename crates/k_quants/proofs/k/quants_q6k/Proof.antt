@@ -6,10 +6,10 @@ use lib.ListN.{getD, replicate}
 use Rattle.numbers.proofs.Signed.{byte-read}
 use native.Mathlib.Omega.{arith}
 use Rattle.layouts.specs.K.{quantQ6K}
-use Rattle.k_layouts.proofs.Eight.{Streamed, streamed-none, streamed-more, streamed-all}
+use Rattle.k_quants.proofs.Eight.{Streamed, streamed-none, streamed-more, streamed-all}
 use Rattle.layouts.proofs.Quants.{q6k-at}
-use Rattle.k_layouts.proofs.k.quants_q6k.Statement.{statement}
-use Rattle.k_layouts.proofs.k.quants_q6k.Tie as tie
+use Rattle.k_quants.proofs.k.quants_q6k.Statement.{statement}
+use Rattle.k_quants.proofs.k.quants_q6k.Tie as tie
 
 -- the first bit pair is not shifted
 first : (n h : ℕ) → pos (n + 16 * (h % 4)) -ℤ pos 32 ≡ pos (n + 16 * (h / 1 % 4)) -ℤ pos 32

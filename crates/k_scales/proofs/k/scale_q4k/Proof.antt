@@ -1,8 +1,8 @@
 -- `k::scale_q4k` meets its contract. Assumes nothing.
 use native.Mathlib.Omega.{arith}
-use Rattle.k_layouts.proofs.Scales.{scale-low, scale-high}
-use Rattle.k_layouts.proofs.k.scale_q4k.Statement.{statement}
-use Rattle.k_layouts.proofs.k.scale_q4k.Tie as tie
+use Rattle.k_scales.proofs.Scales.{scale-low, scale-high}
+use Rattle.k_scales.proofs.k.scale_q4k.Statement.{statement}
+use Rattle.k_scales.proofs.k.scale_q4k.Tie as tie
 
 mul-result : tie.Need-mul-result
 mul-result c = omega (arith, c .shared-slice-known3 .given (c .before .before .before .args .j))

@@ -1,0 +1,3 @@
+-- What several proofs of `k_quants` share.
+pub mod Eight
+pub mod LaidOut

@@ -1,0 +1,2 @@
+-- What several proofs of `k_scales` share.
+pub mod Scales
