@@ -1,4 +1,3 @@
 -- What several proofs of `decoders` share.
 pub mod Refused
 pub mod Unique
-pub mod WholeRows

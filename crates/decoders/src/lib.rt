@@ -1,6 +1,5 @@
-// The block decoders: packed blocks become floats, all of them, or a row that may start and end inside a block.
+// The block decoders: packed blocks become floats.
 mod blocks;
-mod decoded_row;
 mod q8_0;
 
 pub use blocks::decode_blocks;
@@ -11,4 +10,3 @@ pub use blocks::dequantize_q5_0;
 pub use blocks::dequantize_q5_k;
 pub use blocks::dequantize_q6_k;
 pub use blocks::dequantize_q8_0;
-pub use decoded_row::decode_row;

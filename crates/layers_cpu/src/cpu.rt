@@ -1,5 +1,5 @@
 // The `_cpu` layers: a row of weights is decoded into scratch once, and serves every row of readings.
-use decoders::decode_row;
+use decoded_rows::decode_row;
 use layers_cpu_checks::cpu_refusal;
 use layers_shape::Shape;
 use layouts::Format;

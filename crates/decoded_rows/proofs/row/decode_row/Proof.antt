@@ -1,4 +1,4 @@
--- `decoded_row::decode_row` meets its contract: a row of whole blocks is the values of its own bytes. Assumes nothing.
+-- `row::decode_row` meets its contract: a row of whole blocks is the values of its own bytes. Assumes nothing.
 use mathlib.Core.Path.{refl, ap, _∙_}
 use Prim.Native.Nat.{_+_, _*_, _/_, _≤_, _<_}
 use native.Mathlib.Nat.{le-of-eq, mod-lt}
@@ -9,9 +9,9 @@ use Rattle.memory.specs.Lists.{filled}
 use Rattle.memory.proofs.Filled.{filled-all, table-ext}
 use Rattle.layouts.specs.Weights.{weightAt}
 use Rattle.layouts.proofs.Sizes.{sizes}
-use Rattle.decoders.proofs.WholeRows.{row-fits, row-values, row-weights}
-use Rattle.decoders.proofs.decoded_row.decode_row.Statement.{statement}
-use Rattle.decoders.proofs.decoded_row.decode_row.Tie as tie
+use Rattle.decoded_rows.proofs.WholeRows.{row-fits, row-values, row-weights}
+use Rattle.decoded_rows.proofs.row.decode_row.Statement.{statement}
+use Rattle.decoded_rows.proofs.row.decode_row.Tie as tie
 
 -- a block has values, and not many
 some : (c : tie.After-block-values) → (0 < c .block-values .result) × (c .block-values .result ≤ 256)

@@ -1,5 +1,5 @@
 // A row that may start or end inside a block, and a row of whole blocks.
-use crate::blocks::decode_blocks;
+use decoders::decode_blocks;
 use layouts::Format;
 ghost use mathlib.Core.Path.{_≡_};
 ghost use Prim.Native.Nat.{_+_, _^_, _≤_, _<_, min};

@@ -1,4 +1,4 @@
--- `decoded_row::decode_within` meets its contract: the block is decoded as a whole, and the places that are asked for are taken from it. Assumes nothing.
+-- `row::decode_within` meets its contract: the block is decoded as a whole, and the places that are asked for are taken from it. Assumes nothing.
 use mathlib.Core.Path.{_≡_, refl, sym, ap, _∙_}
 use Prim.Native.Nat.{_+_, _-_, _≤_, _<_}
 use native.Mathlib.Nat.{le-of-eq}
@@ -14,9 +14,9 @@ use Rattle.numbers.specs.Steps.{nought}
 use Rattle.layouts.specs.Formats.{blockValues}
 use Rattle.layouts.specs.Weights.{valueIn, weightAt}
 use Rattle.layouts.proofs.Sizes.{sizes}
-use Rattle.decoders.proofs.WholeRows.{block-values, block-weight}
-use Rattle.decoders.proofs.decoded_row.decode_within.Statement.{statement}
-use Rattle.decoders.proofs.decoded_row.decode_within.Tie as tie
+use Rattle.decoded_rows.proofs.WholeRows.{block-values, block-weight}
+use Rattle.decoded_rows.proofs.row.decode_within.Statement.{statement}
+use Rattle.decoded_rows.proofs.row.decode_within.Tie as tie
 
 abbrev Inv-loop : tie.InvT-loop
 Inv-loop block from out₀ values whole i₀ i-end out i = Filling (λ k. getD whole (from + k) nan) out₀ (length out₀) out i

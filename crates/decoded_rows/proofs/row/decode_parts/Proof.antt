@@ -1,4 +1,4 @@
--- `decoded_row::decode_parts` meets its contract: the places of one block a turn. Assumes nothing.
+-- `row::decode_parts` meets its contract: the places of one block a turn. Assumes nothing.
 use mathlib.Core.Path.{_≡_, refl, sym, ap, _∙_}
 use Prim.Native.Nat.{ℕ, _+_, _-_, _*_, _/_, _%_, _≤_, _<_, zero-le}
 use native.Mathlib.Nat.{le-antisymm, le-of-eq, mod-lt, div-add-mod', div-lt-iff-lt-mul}
@@ -11,8 +11,8 @@ use Rattle.memory.proofs.Filled.{filled-none, filled-all, part-length, part-tur
 use Rattle.memory.proofs.Parts.{within-whole}
 use Rattle.layouts.specs.Weights.{valueIn, weightAt}
 use Rattle.layouts.proofs.Sizes.{sizes, placed}
-use Rattle.decoders.proofs.decoded_row.decode_parts.Statement.{statement}
-use Rattle.decoders.proofs.decoded_row.decode_parts.Tie as tie
+use Rattle.decoded_rows.proofs.row.decode_parts.Statement.{statement}
+use Rattle.decoded_rows.proofs.row.decode_parts.Tie as tie
 
 abbrev Inv-loop : tie.InvT-loop
 Inv-loop format w from out₀ size values n at₀ out at = (out ≡ filled (λ i. weightAt format w (from + i)) out₀ at) × (at ≤ n) × (length out ≡ length out₀)

@@ -1,0 +1,2 @@
+-- What several proofs of `decoded_rows` share.
+pub mod WholeRows
