@@ -6,6 +6,7 @@ mod block_decoders;
 mod block_quantizers;
 mod calls;
 mod fixed_order_sums;
+mod floors;
 mod fused_dots;
 mod goals;
 mod growth;

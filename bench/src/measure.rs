@@ -98,7 +98,7 @@ fn in_turns(ours: &mut Turn, theirs: &mut Turn) -> (f64, f64) {
 }
 
 /// Nanoseconds of a turn of one side.
-fn alone(turn: &mut dyn FnMut()) -> f64 {
+pub fn alone(turn: &mut dyn FnMut()) -> f64 {
     let turns = turns_for(turn);
     let times = (0..ROUNDS).map(|_| time(turn, turns)).collect();
     median(times) / f64::from(turns)

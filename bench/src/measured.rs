@@ -1,6 +1,7 @@
 //! What was measured of a row, and the line of a file that keeps it.
+use crate::floors::{floor_of, is_near};
 use crate::goals::goal_of;
-use crate::measure::{measure, Beside, Row, Size};
+use crate::measure::{alone, measure, Beside, Row, Size};
 
 pub struct Measured {
     pub call: String,
@@ -13,6 +14,8 @@ pub struct Measured {
     pub theirs: Option<f64>,
     pub vector: Option<f64>,
     pub bar: Option<f64>,
+    /// Nanoseconds of the additions that the call's order asks for, where it is little more.
+    pub floor: Option<f64>,
 }
 
 /// What ours was measured against.
@@ -46,6 +49,7 @@ impl Measured {
             Beside::Nothing => Against::Nothing,
         };
         let times = measure(row);
+        let floor = floor_of(call, values).map(|mut additions| alone(&mut additions));
         Measured {
             call: call.into(),
             input,
@@ -56,6 +60,7 @@ impl Measured {
             theirs: times.theirs,
             vector: times.vector,
             bar,
+            floor,
         }
     }
 
@@ -64,9 +69,19 @@ impl Measured {
         self.theirs.map(|theirs| self.ours / theirs)
     }
 
-    /// Whether the bar is held, where there is one.
+    /// Whether the bar is held, where there is one: by the ratio, or because the call is at its floor.
     pub fn held(&self) -> Option<bool> {
-        Some(self.ratio()? <= self.bar?)
+        Some(self.ratio()? <= self.bar? || self.at_floor())
+    }
+
+    /// Whether the ratio is above the bar: if the bar is held all the same, the call is at its floor.
+    pub fn above_bar(&self) -> bool {
+        matches!((self.ratio(), self.bar), (Some(ratio), Some(bar)) if ratio > bar)
+    }
+
+    /// Whether the call takes hardly more than its order does by itself.
+    fn at_floor(&self) -> bool {
+        self.floor.is_some_and(|floor| is_near(self.ours, floor))
     }
 
     /// The goal, where there is a bar.
@@ -95,6 +110,7 @@ impl Measured {
             number(self.theirs),
             number(self.vector),
             number(self.bar),
+            number(self.floor),
         ]
         .join("\t")
     }
@@ -102,7 +118,8 @@ impl Measured {
     /// What a line keeps, where it is one.
     pub fn of_line(line: &str) -> Option<Measured> {
         let words: Vec<&str> = line.split('\t').collect();
-        let [call, input, size, values, against, ours, theirs, vector, bar] = words[..] else {
+        let [call, input, size, values, against, ours, theirs, vector, bar, floor] = words[..]
+        else {
             return None;
         };
         let number = |word: &str| word.parse().ok();
@@ -116,6 +133,7 @@ impl Measured {
             theirs: number(theirs),
             vector: number(vector),
             bar: number(bar),
+            floor: number(floor),
         })
     }
 }

@@ -88,12 +88,12 @@ pub fn text(rows: &[Pair], [processor, day, compiler]: [&str; 3]) -> String {
 
 fn table(rows: &[&Pair]) -> String {
     let head = "\
-| call | input | size | ours, ns | ns a value | the Rust, ns | its vector, ns | ours / Rust | bar | goal | the Rust for this processor, ns | ours / that |
-|---|---|---|---:|---:|---:|---:|---:|---:|---:|---:|---:|";
+| call | input | size | ours, ns | ns a value | the Rust, ns | its vector, ns | floor, ns | ours / Rust | bar | goal | the Rust for this processor, ns | ours / that |
+|---|---|---|---:|---:|---:|---:|---:|---:|---:|---:|---:|---:|";
     let rows = rows.iter().map(|Pair { plain, native }| {
         let time = |time: Option<f64>| time.map_or(String::new(), nanoseconds);
         format!(
-            "| `{}` | {} | {} | {} | {:.3} | {} | {} | {} | {} | {} | {} | {} |",
+            "| `{}` | {} | {} | {} | {:.3} | {} | {} | {} | {} | {} | {} | {} | {} |",
             plain.call,
             plain.input,
             plain.size_word(),
@@ -101,6 +101,7 @@ fn table(rows: &[&Pair]) -> String {
             plain.ours / plain.values as f64,
             time(plain.theirs),
             time(plain.vector),
+            time(plain.floor),
             two_places(plain.ratio()),
             bar(plain),
             goal(plain),
@@ -129,14 +130,14 @@ fn table_of_steps(rows: &[&Pair]) -> String {
     lines(head, rows)
 }
 
-/// A bar, and a word where it is missed.
+/// A bar, and words where the ratio is above it: missed, or the call is at its floor.
 fn bar(row: &Measured) -> String {
-    let missed = if row.held() == Some(false) {
-        " missed"
-    } else {
-        ""
+    let word = match row.held() {
+        Some(false) => " missed",
+        Some(true) if row.above_bar() => " at its floor",
+        _ => "",
     };
-    two_places(row.bar) + missed
+    two_places(row.bar) + word
 }
 
 /// A goal, and words where it is not reached.

@@ -5,8 +5,11 @@ use crate::measured::Measured;
 /// How the numbers of a row are to be read.
 pub const WORDS: &str = "\
 Nanoseconds of one call, and ours over the other's: below 1.00 ours is faster. A bar is the
-most that this may be, and a goal, which lies below it, what the call is to keep. Neither side is inlined where it is measured: ours is called through C,
-and the Rust through a pointer, so that each pays for one call. The Rust's block decoders put
+most that this may be, and a goal, which lies below it, what the call is to keep. Where a call is
+little more than additions in the fixed order, its floor is the time of these additions alone: it
+holds its bar also where it is within 5 % and 10 ns of its floor. Neither side is inlined where it is measured: ours
+is called through C, and the Rust through a pointer, so that each pays for one call. The Rust's
+block decoders put
 their values into a new vector, which is part of their time and cannot be taken out of them, as
 its block quantizers do with their bytes, its row dots with the sums of their chunks or blocks,
 and its `_cpu` layers with all of their weights; to make and to drop a decoder's vector, or such
@@ -24,8 +27,8 @@ pub fn head() -> String {
     let rounds =
         format!("The median of {ROUNDS} rounds, in which both sides take turns, in one process.");
     let columns = format!(
-        "{:<23} {:<30} {:>9} {:>9} {:>9} {:>9}  bar         goal",
-        "call", "input", "ours", "other", "vector", "ratio"
+        "{:<23} {:<30} {:>9} {:>9} {:>9} {:>9} {:>9}  bar         goal",
+        "call", "input", "ours", "other", "vector", "floor", "ratio"
     );
     format!("{WORDS}\n{rounds}\n\n{columns}")
 }
@@ -33,6 +36,7 @@ pub fn head() -> String {
 pub fn line(measured: &Measured) -> String {
     let time = |time: Option<f64>| time.map_or(String::new(), nanoseconds);
     let bar = match measured.held() {
+        Some(true) if measured.above_bar() => "floor",
         Some(true) => "held",
         Some(false) => "MISSED",
         None => "",
@@ -43,12 +47,13 @@ pub fn line(measured: &Measured) -> String {
         None => "",
     };
     let line = format!(
-        "{:<23} {:<30} {:>9} {:>9} {:>9} {:>9}  {:<4} {bar:<6} {:<4} {goal}",
+        "{:<23} {:<30} {:>9} {:>9} {:>9} {:>9} {:>9}  {:<4} {bar:<6} {:<4} {goal}",
         measured.call,
         measured.input,
         nanoseconds(measured.ours),
         time(measured.theirs),
         time(measured.vector),
+        time(measured.floor),
         two_places(measured.ratio()),
         two_places(measured.bar),
         two_places(measured.goal()),
