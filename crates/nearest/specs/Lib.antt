@@ -1,0 +1,2 @@
+-- What a reading becomes in IQ4_NL.
+pub mod Nearest
