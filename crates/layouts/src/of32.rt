@@ -82,7 +82,22 @@ fn quants_q8_0(block: &[u8]) -> [i8; 32]
 
 // The sixteen values of IQ4_NL. They rise.
 const VALUES_IQ4_NL: [i8; 16] = [
-    -127, -104, -83, -65, -49, -35, -22, -10, 1, 13, 25, 38, 53, 69, 89, 113,
+    -127,
+    -104,
+    -83,
+    -65,
+    -49,
+    -35,
+    -22,
+    -10,
+    1,
+    13,
+    25,
+    38,
+    53,
+    69,
+    89,
+    113,
 ];
 
 // The value that a nibble of IQ4_NL picks.
