@@ -1,1 +1,2 @@
 -- What the proofs of `nearest` share.
+pub mod Searched
