@@ -18,7 +18,7 @@ use Rattle.readings.specs.Readings.{quantQ40}
 use Rattle.readings.proofs.Held.{held-up-to}
 use Rattle.layouts.specs.Formats.{bytes32}
 use Rattle.layouts.proofs.Quants.{beside-low, beside-high, apart-low, apart-high}
-use Rattle.quantizers.specs.Blocks.{formatOf, scaleOf, scaledReading, quantOf, quantByte, byteAt}
+use Rattle.quantizers.specs.Blocks.{formatOf, scaleOf, storedScale, scaledReading, quantOf, quantByte, byteAt}
 use Rattle.quantizers.specs.Lost.{scaleFares, lostIn, lostBy}
 use Rattle.quantizers.specs.Says.{packedAt, bytesFor, quantizeRefusal, quantizeSays}
 use Rattle.quantizers.specs.declared.lost.Lost.{Lost}
@@ -92,10 +92,15 @@ module _ (xs : List Float) where
   same-scale ToGgml = refl
   same-scale FromGgml = refl
 
+  same-stored : (d : Direction) → storedScale (targetRead d) (scaleOf (targetRead d) xs) ≡ storedScale (targetWritten d) (scaleOf (targetWritten d) xs)
+  unfolding scaleOf storedScale
+  same-stored ToGgml = refl
+  same-stored FromGgml = refl
+
   pub converted-block : (d : Direction) (p : ℕ) → p < 18 → convertedByte d (packedBlock (targetRead d)) p ≡ byteAt (targetWritten d) xs p
   unfolding convertedByte byteAt
-  converted-block d zero h = getD-table (byteAt (targetRead d) xs) 18 0 0 h ∙ rw (same-scale d)
-  converted-block d (suc zero) h = getD-table (byteAt (targetRead d) xs) 18 1 0 h ∙ rw (same-scale d)
+  converted-block d zero h = getD-table (byteAt (targetRead d) xs) 18 0 0 h ∙ rw (same-stored d)
+  converted-block d (suc zero) h = getD-table (byteAt (targetRead d) xs) 18 1 0 h ∙ rw (same-stored d)
   converted-block d (suc (suc k)) h = moved-is d k (omega arith)
 
 -- ---- a run of blocks
@@ -162,7 +167,7 @@ module _ (xs : List Float) where
 same-lost : (d : Direction) (xs : List Float) (n : ℕ) → lostIn (targetRead d) xs n ≡ lostIn (targetWritten d) xs n
 unfolding lostIn scaleFares
 same-lost d xs zero = refl
-same-lost d xs (suc n) = rw (same-lost d xs n, same-scale (part xs (n * 32) 32) d)
+same-lost d xs (suc n) = rw (same-lost d xs n, same-stored (part xs (n * 32) 32) d)
 
 -- a quantizer whose checks pass packs
 packs : (t : Target) (xs : List Float) (room : List ℕ) → bytes32 (formatOf t) ≡ 18 → quantizeRefusal t (length xs) (length room) ≡ done

@@ -31,13 +31,13 @@ fn scale_of(target: Target, x: &[f32]) -> f32
 fn stored_scale(target: Target, d: f32) -> Narrowed
     ensures { λ r. ⌜ r ≡ storedScale target d ⌝ }
 {
-    if let Target::Iq4Nl(scale) = target {
-        return Narrowed {
+    match target {
+        Target::Q40 | Target::Q40Ggml | Target::Q80 => halves::f32_to_f16(halves::bits_of(d)),
+        Target::Iq4Nl(scale) => Narrowed {
             bits: scale,
             how: How::Exact,
-        };
+        },
     }
-    halves::f32_to_f16(halves::bits_of(d))
 }
 
 // The quants of two readings, scaled, in one byte of Q4_0.
