@@ -87,20 +87,15 @@ module _ (xs : List Float) where
   moved-is ToGgml k h = rw (nibble-read ToGgml k (omega arith), nibble-read ToGgml (k + 16) (omega arith), same-nibble k, same-nibble (k + 16))
   moved-is FromGgml k h = rw (nibble-read FromGgml (2 * k) (omega arith), nibble-read FromGgml (2 * k + 1) (omega arith))
 
-  pub same-scale : (d : Direction) → scaleOf (targetRead d) xs ≡ scaleOf (targetWritten d) xs
-  unfolding scaleOf
+  pub same-scale : (d : Direction) → storedScale (targetRead d) (scaleOf (targetRead d) xs) ≡ storedScale (targetWritten d) (scaleOf (targetWritten d) xs)
+  unfolding scaleOf storedScale
   same-scale ToGgml = refl
   same-scale FromGgml = refl
 
-  same-stored : (d : Direction) → storedScale (targetRead d) (scaleOf (targetRead d) xs) ≡ storedScale (targetWritten d) (scaleOf (targetWritten d) xs)
-  unfolding scaleOf storedScale
-  same-stored ToGgml = refl
-  same-stored FromGgml = refl
-
   pub converted-block : (d : Direction) (p : ℕ) → p < 18 → convertedByte d (packedBlock (targetRead d)) p ≡ byteAt (targetWritten d) xs p
   unfolding convertedByte byteAt
-  converted-block d zero h = getD-table (byteAt (targetRead d) xs) 18 0 0 h ∙ rw (same-stored d)
-  converted-block d (suc zero) h = getD-table (byteAt (targetRead d) xs) 18 1 0 h ∙ rw (same-stored d)
+  converted-block d zero h = getD-table (byteAt (targetRead d) xs) 18 0 0 h ∙ rw (same-scale d)
+  converted-block d (suc zero) h = getD-table (byteAt (targetRead d) xs) 18 1 0 h ∙ rw (same-scale d)
   converted-block d (suc (suc k)) h = moved-is d k (omega arith)
 
 -- ---- a run of blocks
@@ -167,7 +162,7 @@ module _ (xs : List Float) where
 same-lost : (d : Direction) (xs : List Float) (n : ℕ) → lostIn (targetRead d) xs n ≡ lostIn (targetWritten d) xs n
 unfolding lostIn scaleFares
 same-lost d xs zero = refl
-same-lost d xs (suc n) = rw (same-lost d xs n, same-stored (part xs (n * 32) 32) d)
+same-lost d xs (suc n) = rw (same-lost d xs n, same-scale (part xs (n * 32) 32) d)
 
 -- a quantizer whose checks pass packs
 packs : (t : Target) (xs : List Float) (room : List ℕ) → bytes32 (formatOf t) ≡ 18 → quantizeRefusal t (length xs) (length room) ≡ done
