@@ -79,6 +79,6 @@ module _ (z : ℤ) where
         nibble = small;
         none-nearer = λ m k. at-all (nearest z) m none k;
         the-lower = λ m k e other.
-          let first : nearest z ≤ m = first-least 0 16 m (omega arith) k (as-near (nearest z) m e ∙ none) in
-          rises (nearest z) m (⊎-elim (λ u. absurd (other u)) (λ u. u) (eq-or-lt-of-le first)) k;
+            let first : nearest z ≤ m = first-least 0 16 m (omega arith) k (as-near (nearest z) m e ∙ none) in
+            rises (nearest z) m (⊎-elim (λ u. absurd (other u)) (λ u. u) (eq-or-lt-of-le first)) k;
       }
