@@ -1,24 +1,26 @@
--- What `nearest` finds for a signed byte: no other value of the table is nearer, and of two as near it is the lower. Assumes nothing.
+-- What `nearest` finds: no other value of the table is nearer, and of two as near it is the lower. Assumes nothing.
 use mathlib.Core.Path.{_≡_, refl, sym, ap, _∙_, subst}
 use mathlib.Core.Bool.{Bool, true, false, cond, false≢true}
 use mathlib.Core.Logic.{⊎-elim}
 use Prim.Native.Nat.{ℕ, zero, suc, _+_, _≤_, _<_}
 use native.Mathlib.Nat.{eq-or-lt-of-le}
 use native.Mathlib.Omega.{arith}
-use lib.Dec.{leb}
-use lib.IntN.{ℤ, _+ℤ_}
-use lib.Signed.{mag, ltZ, _<ℤ_}
-use borrow.Author.Tests.{leb-true}
+use lib.Dec.{leb, ltb}
+use lib.IntN.{ℤ, pos, negsuc}
+use lib.Ieee.{Float, binary32, ofBits, le, add}
+use lib.Signed.{mag, _<ℤ_}
+use borrow.Author.Tests.{leb-true, ltb-false}
 use mir.Syntax.{w8}
 use mir.Val.{ofZ}
 use mir.ValLaws.{ofZ-fits}
 use Rattle.memory.specs.Lists.{every}
 use Rattle.memory.proofs.Every.{every-at}
 use Rattle.numbers.proofs.Signed.{read-is}
+use Rattle.numbers.specs.Steps.{nought, truncated}
+use Rattle.readings.specs.Readings.{held, quantQ8}
 use Rattle.layouts.specs.Of32.{valueIq4Nl}
 use Rattle.layouts.proofs.Rising.{rises}
 use Rattle.nearest.specs.Nearest.{distance, noneNearer, firstNearest, nearest}
-use Rattle.nearest.specs.Inner.{nextIsNearer, nearerNext}
 use Rattle.nearest.proofs.Searched.{searched}
 
 -- nibble n picks the value nearest to z
@@ -56,24 +58,10 @@ module _ (z : ℤ) where
   unfolding noneNearer
   at-all n m e h = leb-true _ _ (every-at (λ i. leb (distance z (valueIq4Nl n)) (distance z (valueIq4Nl i))) 16 m e h)
 
-  next-small : (k : ℕ) → nextIsNearer z k ≤ 1
-  unfolding nextIsNearer
-  next-small k = by (ltZ (valueIq4Nl k +ℤ valueIq4Nl (k + 1)) (z +ℤ z))
-    where
-      by : (t : Bool) → cond t 1 0 ≤ 1
-      by true = omega arith
-      by false = omega arith
-
-  few : (k : ℕ) → nearerNext z k ≤ k
-  unfolding nearerNext
-  few zero = omega arith
-  few (suc k) = omega (arith, few k, next-small k)
-
+  -- for every signed byte
   pub nearest-value : mag z < 128 → Nearest z (nearest z)
   nearest-value h =
-      let read = read-is w8 z h in
-      let found : nearerNext z 15 ≡ nearest z = subst (λ (y : ℤ). nearerNext y 15 ≡ nearest y) read (searched (ofZ w8 z) (ofZ-fits w8 z (record { sfits = h }) .fits)) in
-      let small : nearest z < 16 = omega (arith, few 15, found) in
+      let small : nearest z < 16 = subst (λ (y : ℤ). nearest y < 16) (read-is w8 z h) (searched (ofZ w8 z) (ofZ-fits w8 z (record { sfits = h }) .fits) .1) in
       let none : noneNearer z (nearest z) ≡ true = first-is 0 16 small in
       record {
         nibble = small;
@@ -82,3 +70,25 @@ module _ (z : ℤ) where
             let first : nearest z ≤ m = first-least 0 16 m (omega arith) k (as-near (nearest z) m e ∙ none) in
             rises (nearest z) m (⊎-elim (λ u. absurd (other u)) (λ u. u) (eq-or-lt-of-le first)) k;
       }
+
+-- ---- a Q8 quant is a signed byte
+
+held-small : (z : ℤ) → mag (held (negsuc 126) (pos 127) z) < 128
+held-small (pos n) = by (ltb 127 n) refl
+  where
+    by : (t : Bool) → ltb 127 n ≡ t → mag (cond t (pos 127) (pos n)) < 128
+    by true e = omega arith
+    by false e = omega (arith, ltb-false 127 n e)
+held-small (negsuc n) = by (ltb 126 n) refl
+  where
+    by : (t : Bool) → ltb 126 n ≡ t → mag (cond t (negsuc 126) (negsuc n)) < 128
+    by true e = omega arith
+    by false e = omega (arith, ltb-false 126 n e)
+
+pub q8-byte : (p : Float) → mag (quantQ8 p) < 128
+unfolding quantQ8
+q8-byte p = held-small (truncated (add binary32 p (cond (le nought p) (ofBits binary32 0x3f00_0000) (ofBits binary32 0xbf00_0000))))
+
+-- so that the nibble of a reading picks the value nearest to its integer
+pub nearest-of-reading : (p : Float) → Nearest (quantQ8 p) (nearest (quantQ8 p))
+nearest-of-reading p = nearest-value (quantQ8 p) (q8-byte p)

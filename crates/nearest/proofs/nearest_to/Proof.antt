@@ -1,21 +1,17 @@
 -- `nearest_to` meets its contract: the search counts the values whose next is nearer. Assumes nothing.
-use mathlib.Core.Path.{_≡_, refl, sym, ap, _∙_}
-use Prim.Native.Nat.{ℕ, zero, suc, _+_, _-_, _≤_, _<_}
+use mathlib.Core.Path.{_≡_, refl, ap, _∙_}
+use Prim.Native.Nat.{_-_, _≤_}
 use native.Mathlib.Numerals.{add-one}
 use native.Mathlib.Omega.{arith}
 use mir.Syntax.{w8}
 use mir.Val.{toZ, ofZ}
 use mir.ValLaws.{ofZ-fits}
-use lib.IntN.{ℤ}
 use Rattle.numbers.proofs.Signed.{read-is, byteRead}
 use Rattle.nearest.specs.Nearest.{nearest}
-use borrow.Author.Needs.{needs}
-use Rattle.nearest.specs.Inner.{nextIsNearer, nearerNext}
+use Rattle.nearest.specs.Inner.{nearerNext}
 use Rattle.nearest.proofs.Searched.{searched}
 use Rattle.nearest.proofs.nearest_to.Statement.{statement}
 use Rattle.nearest.proofs.nearest_to.Tie as tie
-use Rattle.nearest.proofs.nearest_to.Reads as reads
-use Rattle.nearest.proofs.nearest_to.Lts as lts
 
 abbrev Inv-loop : tie.InvT-loop
 Inv-loop q n₀ k₀ n k = (n ≡ nearerNext (toZ w8 q) k) × (n ≤ k) × (k ≤ 15)
@@ -46,7 +42,7 @@ returns c =
     let s = c .before .before in
     let all : l .k ≡ 15 = omega (arith, c .loop-test .left) in
     let e : l .n ≡ nearerNext (byteRead (s .args .q)) 15 = l .inv .0 ∙ ap (nearerNext (byteRead (s .args .q))) all in
-    (e ∙ searched (ofZ w8 (s .args .q)) (ofZ-fits w8 (s .args .q) (s .fits .q) .fits) ∙ ap nearest (read-is w8 (s .args .q) (s .fits .q .sfits)), omega arith)
+    (e ∙ searched (ofZ w8 (s .args .q)) (ofZ-fits w8 (s .args .q) (s .fits .q) .fits) .0 ∙ ap nearest (read-is w8 (s .args .q) (s .fits .q .sfits)), omega arith)
 
 pub nearest-to-spec : {M : Type 1} → statement M
 nearest-to-spec =

@@ -12,8 +12,6 @@ use Rattle.layouts.specs.Of32.{valueIq4Nl}
 use Rattle.nearest.specs.Inner.{nextIsNearer}
 use Rattle.nearest.proofs.next_is_nearer.Statement.{statement}
 use Rattle.nearest.proofs.next_is_nearer.Tie as tie
-use Rattle.nearest.proofs.next_is_nearer.Reads as reads
-use Rattle.nearest.proofs.next_is_nearer.Lts as lts
 
 -- the sum of two bytes, as the code compares it
 read-sum : (x y : ℤ) {s u v : ℤ} → mag s < 2 ^ 15 → mag x < 128 → mag y < 128 → s ≡ byteRead x +ℤ byteRead y → x ≡ u → y ≡ v → toZ w16 (ofZ w16 s) ≡ u +ℤ v
@@ -31,6 +29,9 @@ told c =
     let twice : toZ w16 (ofZ w16 (c .sum-of2 .result)) ≡ s .args .q +ℤ s .args .q = read-sum (s .args .q) (s .args .q) (c .sum-of2 .ok) q q (c .sum-of2 .ensures) refl refl in
     rw (both, twice)
 
+sum-of-requires-2 : tie.Need-sum-of-requires-2
+sum-of-requires-2 c κs = search needs
+
 returns : tie.Need-returns
 unfolding nextIsNearer
 returns c = (rw (sym (told (c .before)) ∙ c .if1 .taken), omega arith)
@@ -47,6 +48,6 @@ next-is-nearer-spec =
     (λ c. search needs)
     (λ c κs. search needs)
     (λ c κs. search needs)
-    (λ c κs. search needs)
+    sum-of-requires-2
     returns
     returns-2)
