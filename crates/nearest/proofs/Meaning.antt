@@ -20,7 +20,7 @@ use Rattle.numbers.specs.Steps.{nought, truncated}
 use Rattle.readings.specs.Readings.{held, quantQ8}
 use Rattle.layouts.specs.Of32.{valueIq4Nl}
 use Rattle.layouts.proofs.Rising.{rises}
-use Rattle.nearest.specs.Nearest.{distance, noneNearer, firstNearest, nearest}
+use Rattle.nearest.specs.Nearest.{distance, noneNearer, firstNearest, nearest, quantIq4Nl}
 use Rattle.nearest.proofs.Searched.{searched}
 
 -- nibble n picks the value nearest to z
@@ -90,5 +90,6 @@ unfolding quantQ8
 q8-byte p = held-small (truncated (add binary32 p (cond (le nought p) (ofBits binary32 0x3f00_0000) (ofBits binary32 0xbf00_0000))))
 
 -- so that the nibble of a reading picks the value nearest to its integer
-pub nearest-of-reading : (p : Float) → Nearest (quantQ8 p) (nearest (quantQ8 p))
+pub nearest-of-reading : (p : Float) → Nearest (quantQ8 p) (quantIq4Nl p)
+unfolding quantIq4Nl
 nearest-of-reading p = nearest-value (quantQ8 p) (q8-byte p)

@@ -2,7 +2,7 @@
 use Prim.Native.Nat.{ℕ, zero, suc}
 use mathlib.Core.Bool.{Bool, cond}
 use lib.Dec.{leb}
-use lib.IntN.{ℤ, pos, natAbs, _-ℤ_}
+use lib.IntN.{ℤ, natAbs, _-ℤ_}
 use lib.Ieee.{Float}
 use Rattle.memory.specs.Lists.{every}
 use Rattle.layouts.specs.Of32.{valueIq4Nl}
@@ -26,5 +26,5 @@ abbrev pub nearest : ℤ → ℕ
 nearest z = firstNearest z 0 16
 
 -- IQ4_NL, of a reading times the inverse: an integer by the Q8 rule, and then the nibble of the value nearest to that
-unfoldable pub quantIq4Nl : Float → ℤ
-quantIq4Nl p = pos (nearest (quantQ8 p))
+unfoldable pub quantIq4Nl : Float → ℕ
+quantIq4Nl p = nearest (quantQ8 p)

@@ -2,7 +2,10 @@
 use layouts::value_iq4_nl;
 ghost use mathlib.Core.Path.{_≡_};
 ghost use Prim.Native.Nat.{_≤_, _<_};
-ghost use lib.IntN.{pos, _+ℤ_};
+ghost use lib.IntN.{_+ℤ_};
+ghost use lib.ListN.{length, getD};
+ghost use lib.Ieee.{nan, binary32, mul};
+ghost use Rattle.memory.specs.Lists.{table};
 ghost use Rattle.nearest.specs.Nearest.{nearest, quantIq4Nl};
 ghost use Rattle.nearest.specs.Inner.{nextIsNearer};
 
@@ -35,8 +38,21 @@ fn nearest_to(q: i8) -> u8
 }
 
 // The IQ4_NL nibble of p, a reading times the inverse.
-pub fn round_iq4_nl(p: f32) -> u8
-    ensures { λ r. ⌜ (pos r ≡ quantIq4Nl p) × (r < 16) ⌝ }
+fn round_iq4_nl(p: f32) -> u8
+    ensures { λ r. ⌜ r ≡ quantIq4Nl p ⌝ }
 {
     nearest_to(readings::round_q8(p))
+}
+
+// The IQ4_NL nibbles of a block's readings, one to a place. They are not packed here: with one caller the search is
+// compiled into this loop, and is done in vectors.
+pub fn nibbles_iq4_nl(x: &[f32], inverse: f32) -> [u8; 32]
+    requires { ⌜ length (now x) ≡ 32 ⌝ }
+    ensures { λ r. ⌜ r ≡ table (λ k. quantIq4Nl (mul binary32 (getD (now (x .entry)) k nan) inverse)) 32 ⌝ }
+{
+    let mut n = [0u8; 32];
+    for k in 0..32usize {
+        n[k] = round_iq4_nl(x[k] * inverse);
+    }
+    n
 }

@@ -4,6 +4,7 @@ use Prim.Native.Nat.{ℕ, suc, _+_, _-_, _*_, _/_, _%_, _<_}
 use native.Mathlib.Omega.{arith}
 use mathlib.Core.List.{List, _++_}
 use lib.Arith.{digits-div, digits-mod}
+use lib.IntN.{pos}
 use lib.ListN.{length, getD, set, take, drop}
 use lib.Ieee.{Float, nan, binary32, mul}
 use Rattle.memory.specs.Lists.{table}
@@ -26,7 +27,7 @@ abbrev pub written : Target → List Float → Float → ℕ → ℕ
 written Q40 xs inv k = nibbles (quantQ40 (mul binary32 (getD xs (2 * k) nan) inv)) (quantQ40 (mul binary32 (getD xs (2 * k + 1) nan) inv))
 written Q40Ggml xs inv k = nibbles (quantQ40 (mul binary32 (getD xs k nan) inv)) (quantQ40 (mul binary32 (getD xs (k + 16) nan) inv))
 written Q80 xs inv k = byteOf (quantQ8 (mul binary32 (getD xs k nan) inv))
-written (Iq4Nl s) xs inv k = nibbles (quantIq4Nl (mul binary32 (getD xs k nan) inv)) (quantIq4Nl (mul binary32 (getD xs (k + 16) nan) inv))
+written (Iq4Nl s) xs inv k = nibbles (pos (quantIq4Nl (mul binary32 (getD xs k nan) inv))) (pos (quantIq4Nl (mul binary32 (getD xs (k + 16) nan) inv)))
 
 written-is : (t : Target) (xs : List Float) (k : ℕ) → written t xs (inverse (scaleOf t xs)) k ≡ byteAt t xs (2 + k)
 unfolding quantByte quantOf scaledReading

@@ -1,7 +1,7 @@
 -- The bytes of a quantised block of 32 readings. Definitions only.
 use Prim.Native.Nat.{ℕ, zero, suc, _+_, _*_, _/_, _%_}
 use mathlib.Core.List.{List}
-use lib.IntN.{ℤ}
+use lib.IntN.{ℤ, pos}
 use lib.ListN.{getD}
 use lib.Ieee.{Float, nan, binary32, mul, div, ofBits, toBits}
 use Rattle.halves.specs.Binary16.{widened}
@@ -50,7 +50,7 @@ unfoldable pub quantOf : Target → List Float → ℕ → ℤ
 quantOf Q40 xs i = quantQ40 (scaledReading Q40 xs i)
 quantOf Q40Ggml xs i = quantQ40 (scaledReading Q40Ggml xs i)
 quantOf Q80 xs i = quantQ8 (scaledReading Q80 xs i)
-quantOf (Iq4Nl s) xs i = quantIq4Nl (scaledReading (Iq4Nl s) xs i)
+quantOf (Iq4Nl s) xs i = pos (quantIq4Nl (scaledReading (Iq4Nl s) xs i))
 
 -- two quants in one byte: the first in its low and the second in its high nibble
 abbrev pub nibbles : ℤ → ℤ → ℕ

@@ -2,9 +2,10 @@
 use crate::target::Target;
 use halves::How;
 use halves::Narrowed;
-use nearest::round_iq4_nl;
+use nearest::nibbles_iq4_nl;
 ghost use mathlib.Core.Path.{_≡_};
 ghost use Prim.Native.Nat.{_+_, _*_};
+ghost use lib.IntN.{pos};
 ghost use lib.ListN.{length, getD};
 ghost use lib.Ieee.{nan, binary32, mul};
 ghost use Rattle.memory.specs.Lists.{table};
@@ -73,24 +74,16 @@ fn write_quants_q4_0_ggml(x: &[f32], inverse: f32, out: &mut [u8])
     }
 }
 
-// The nibbles of two readings, scaled, in one byte of IQ4_NL.
-fn nibbles_iq4_nl(first: f32, second: f32) -> u8
-    ensures { λ r. ⌜ r ≡ nibbles (quantIq4Nl first) (quantIq4Nl second) ⌝ }
-{
-    let low = round_iq4_nl(first);
-    let high = round_iq4_nl(second);
-    low + 16 * high
-}
-
 // IQ4_NL's nibbles: those of readings k and k+16 share byte k.
 fn write_quants_iq4_nl(x: &[f32], inverse: f32, out: &mut [u8])
     requires { ⌜ (length (now x) ≡ 32) × (length (now out) ≡ 16) ⌝ }
     ensures { λ _. ⌜ now (out .exit)
-        ≡ table (λ k. nibbles (quantIq4Nl (mul binary32 (getD (now (x .entry)) k nan) inverse))
-        (quantIq4Nl (mul binary32 (getD (now (x .entry)) (k + 16) nan) inverse))) 16 ⌝ }
+        ≡ table (λ k. nibbles (pos (quantIq4Nl (mul binary32 (getD (now (x .entry)) k nan) inverse)))
+        (pos (quantIq4Nl (mul binary32 (getD (now (x .entry)) (k + 16) nan) inverse)))) 16 ⌝ }
 {
+    let n = nibbles_iq4_nl(x, inverse);
     for k in 0..16usize {
-        out[k] = nibbles_iq4_nl(x[k] * inverse, x[k + 16] * inverse);
+        out[k] = n[k] + 16 * n[k + 16];
     }
 }
 
