@@ -6,7 +6,7 @@ ghost use lib.IntN.{pos, _-ℤ_};
 ghost use lib.ListN.{length};
 ghost use Rattle.memory.specs.Lists.{table};
 ghost use Rattle.layouts.specs.Formats.{bytes32};
-ghost use Rattle.layouts.specs.Of32.{valueIq4Nl, quant32};
+ghost use Rattle.layouts.specs.Of32.{valuesIq4Nl, quant32};
 
 // n less k.
 pub fn less(n: u8, k: u8) -> i8
@@ -100,12 +100,11 @@ const VALUES_IQ4_NL: [i8; 16] = [
     113,
 ];
 
-// The value that a nibble of IQ4_NL picks.
-pub fn value_iq4_nl(nibble: u8) -> i8
-    requires { ⌜ nibble < 16 ⌝ }
-    ensures { λ r. ⌜ r ≡ valueIq4Nl nibble ⌝ }
+// The table, which a loop takes once: where it is named inside one, the compiler writes it to the stack at every turn.
+pub fn values_iq4_nl() -> [i8; 16]
+    ensures { λ r. ⌜ r ≡ valuesIq4Nl ⌝ }
 {
-    VALUES_IQ4_NL[nibble as usize]
+    VALUES_IQ4_NL
 }
 
 // IQ4_NL's whole numbers: byte k's nibbles pick those at places k and k + 16.
@@ -113,11 +112,12 @@ fn quants_iq4_nl(block: &[u8]) -> [i8; 32]
     requires { ⌜ length (now block) ≡ 18 ⌝ }
     ensures { λ r. ⌜ r ≡ table (quant32 Format32.Iq4Nl (now (block .entry))) 32 ⌝ }
 {
+    let values = values_iq4_nl();
     let mut q = [0i8; 32];
     for k in 0..16usize {
         let b = block[2 + k];
-        q[k] = value_iq4_nl(b % 16);
-        q[k + 16] = value_iq4_nl(b / 16);
+        q[k] = values[(b % 16) as usize];
+        q[k + 16] = values[(b / 16) as usize];
     }
     q
 }

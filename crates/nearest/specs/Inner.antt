@@ -5,11 +5,11 @@ use lib.IntN.{ℤ, _+ℤ_}
 use lib.Signed.{ltZ}
 use Rattle.layouts.specs.Of32.{valueIq4Nl}
 
--- 1 where z lies above the middle of the values of nibbles k and k+1
-unfoldable pub nextIsNearer : ℤ → ℕ → ℕ
-nextIsNearer z k = cond (ltZ (valueIq4Nl k +ℤ valueIq4Nl (k + 1)) (z +ℤ z)) 1 0
+-- 1 where z lies above the middle of two values
+unfoldable pub nextIsNearer : ℤ → (value next : ℤ) → ℕ
+nextIsNearer z value next = cond (ltZ (value +ℤ next) (z +ℤ z)) 1 0
 
--- how many of the first k values it does so for
+-- how many of the first k values of the table have a next that is nearer to z
 unfoldable pub nearerNext : ℤ → ℕ → ℕ
 nearerNext z zero = 0
-nearerNext z (suc k) = nearerNext z k + nextIsNearer z k
+nearerNext z (suc k) = nearerNext z k + nextIsNearer z (valueIq4Nl k) (valueIq4Nl (k + 1))
