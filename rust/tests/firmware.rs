@@ -1,9 +1,11 @@
 //! What docs/FIRMWARE.md tells: short weights by their counts, by those of a layer of 4,096 to 16 in
-//! Q4_K; lost scales by theirs; and that the wrong order of Q4_0 is not refused.
+//! Q4_K; lost scales by theirs; that the wrong order of Q4_0 is not refused; and what scale to give to
+//! IQ4_NL.
 use jambharrow::{
-    canonical_dot_q4k_fused, dequantize_q4_0, dequantize_q4_0_ggml, dequantize_q8_0,
-    linear_q4_0_cpu, linear_q4_0_ggml_cpu, linear_q4_k_fused, q4_0_from_ggml, quantize_q4_0,
-    quantize_q4_0_ggml, quantize_q8_0, Blocks, Layer, Lost, Refusal,
+    canonical_dot_q4k_fused, dequantize_iq4_nl, dequantize_q4_0, dequantize_q4_0_ggml,
+    dequantize_q8_0, linear_q4_0_cpu, linear_q4_0_ggml_cpu, linear_q4_k_fused, q4_0_from_ggml,
+    quantize_iq4_nl, quantize_q4_0, quantize_q4_0_ggml, quantize_q8_0, Blocks, Layer, Lost,
+    Refusal,
 };
 
 const LAYER: Layer = Layer {
@@ -141,4 +143,31 @@ fn the_wrong_order_is_not_refused_and_has_the_values_at_other_places() {
     assert_eq!(layer, Ok(()));
     assert_eq!(y, of_pairs);
     assert_eq!(scratch, right);
+}
+
+/// What readings become by a scale of IQ4_NL.
+fn by_scale(scale: u16, readings: &[f32; 32]) -> [f32; 32] {
+    let (mut bytes, mut decoded) = ([0; 18], [7.0; 32]);
+    assert_eq!(quantize_iq4_nl(readings, scale, &mut bytes), Ok(()));
+    assert_eq!(dequantize_iq4_nl(&bytes, &mut decoded), Ok(()));
+    decoded
+}
+
+#[test]
+fn a_scale_of_iq4_nl_reaches_from_minus_127_to_113_times_itself() {
+    // 2^-6, and readings within its reach, over it on either side, and 0.
+    let step = 1.0 / 64.0;
+    let mut readings = [0.0; 32];
+    readings[..5].copy_from_slice(&[-1.98, 1.77, -10.0, 10.0, 0.2]);
+    let decoded = by_scale(0x2400, &readings);
+    let wanted = [-127.0, 113.0, -127.0, 113.0, 13.0, 1.0].map(|value| value * step);
+    assert_eq!(decoded[..6], wanted);
+    // A scale that is too large leaves all of them at its own sign and size.
+    assert_eq!(by_scale(0x7BFF, &readings), [65_504.0; 32]);
+    // A zero, an infinity and a NaN decode to themselves.
+    assert_eq!(by_scale(0x8000, &readings), [-0.0; 32]);
+    assert_eq!(by_scale(0x7C00, &readings), [f32::INFINITY; 32]);
+    assert!(by_scale(0x7E00, &readings)
+        .iter()
+        .all(|value| value.is_nan()));
 }

@@ -1,0 +1,74 @@
+-- `of32::quants_iq4_nl` meets its contract: in turn k the places k and k + 16 are filled. Assumes nothing.
+use mathlib.Core.Path.{_≡_, refl, ap}
+use mathlib.Core.List.{List}
+use Prim.Native.Nat.{ℕ, _+_, _-_, _/_, _%_, _<_}
+use lib.IntN.{ℤ, pos}
+use lib.ListN.{getD, replicate}
+use borrow.Author.Needs.{needs}
+use Rattle.numbers.proofs.Signed.{byte-read}
+use native.Mathlib.Omega.{arith}
+use Rattle.layouts.specs.Of32.{valueIq4Nl, quant32}
+use Rattle.layouts.specs.declared.format.Format32.the-variants.{Iq4Nl}
+use Rattle.layouts.proofs.Two.{own-halves, Pairs, pairs-none, pairs-more, pairs-all}
+use Rattle.layouts.proofs.Quants.{apart-low, apart-high, iq4-nl-at}
+use Rattle.layouts.proofs.of32.quants_iq4_nl.Statement.{statement}
+use Rattle.layouts.proofs.of32.quants_iq4_nl.Tie as tie
+
+abbrev Inv-loop : tie.InvT-loop
+Inv-loop block values q₀ k₀ q k = Pairs 16 (λ i. i % 16) (quant32 Iq4Nl block) (pos 0) q k
+
+abbrev μ-loop : tie.MeasureT-loop
+μ-loop block values q₀ k₀ q k = 16 - k
+
+loop-holds : tie.Need-loop-holds Inv-loop μ-loop
+loop-holds c = pairs-none 16 (λ i. i % 16) (quant32 Iq4Nl (c .before .before .args .block .now)) (pos 0) (replicate 32 (pos 0)) refl
+
+cast-q-2 : tie.Need-cast-q-2 Inv-loop μ-loop
+cast-q-2 c = omega (arith, c .before .shared-slice-known2 .given (2 + c .before .before .before .loop .k))
+
+array-copy-out-q : tie.Need-array-copy-out-q Inv-loop μ-loop
+array-copy-out-q c = omega arith
+
+array-copy-out-q-2 : tie.Need-array-copy-out-q-2 Inv-loop μ-loop
+array-copy-out-q-2 c = omega (arith, c .before .shared-slice-known2 .given (2 + c .before .before .before .loop .k))
+
+-- the value that a nibble picks from the code's table
+picked : (m : tie.At-loop Inv-loop μ-loop) (n : ℕ) → getD (m .before .values-iq4-nl .result) n (pos 0) ≡ valueIq4Nl n
+picked m n = ap (λ (v : List ℤ). getD v n (pos 0)) (m .before .values-iq4-nl .ensures)
+
+loop-again : tie.Need-loop-again Inv-loop μ-loop
+loop-again c =
+    let m = c .before .before .before .before in
+    let bs = m .before .before .before .args .block .now in
+    let k = m .loop .k in
+    let h : k < 16 = c .before .before .before .loop-test .taken in
+    let low = getD bs (2 + k) 0 % 16 in
+    let high = getD bs (2 + k) 0 / 16 in
+    pairs-more 16 (λ i. i % 16) (quant32 Iq4Nl bs) (pos 0) (m .loop .q) k _ _ h (byte-read (c .before .q .given) (picked m low) (iq4-nl-at bs k low (apart-low bs 2 k h))) (byte-read (c .q2 .given) (picked m high) (iq4-nl-at bs (k + 16) high (apart-high bs 2 k h))) (own-halves 16 k) (m .loop .inv)
+
+returns : tie.Need-returns Inv-loop μ-loop
+returns c =
+    let l = c .before .loop in
+    pairs-all 16 (λ i. i % 16) (quant32 Iq4Nl (c .before .before .before .before .args .block .now)) (pos 0) (l .q) (l .k) (c .loop-test .left) (λ i h. omega arith) (l .inv)
+
+pub quants-iq4-nl-spec : {M : Type 1} → statement M
+quants-iq4-nl-spec =
+    tie.close
+    (tie.spec
+    Inv-loop
+    μ-loop
+    (λ c κs. search needs)
+    loop-holds
+    (λ c. omega arith)
+    (λ c. omega arith)
+    (λ c. omega arith)
+    array-copy-out-q
+    (λ c. omega arith)
+    cast-q-2
+    array-copy-out-q-2
+    (λ c. omega arith)
+    (λ c. omega arith)
+    (λ c. omega arith)
+    (λ c. omega arith)
+    loop-again
+    returns)
