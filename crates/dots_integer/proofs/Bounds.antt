@@ -25,12 +25,12 @@ use Rattle.layouts.specs.declared.format.FormatK.{FormatK}
 use Rattle.layouts.specs.declared.format.FormatK.the-variants.{Q4K, Q5K, Q6K}
 use Rattle.layouts.proofs.Quants.{nibble-small}
 use Rattle.dots_activation.specs.Whole.{elem, eqZ, Within}
-use Rattle.dots_integer.specs.Inner.{FiveBits}
-use Rattle.dots_integer.specs.Dots.{weighedAt, wholeSum}
 use Rattle.dots_activation.specs.Blocks.{quantAt, quantsOf, sumOf32, rightAt, blockOf, sumsRight, SmallSums}
 use Rattle.dots_activation.proofs.Magnitudes.{within, pos-within, mul-within, fits-within}
 use Rattle.dots_activation.proofs.Ranges.{sum-within}
 use Rattle.dots_activation.proofs.Tests.{eqZ-same}
+use Rattle.dots_whole.specs.Sums.{weighedAt, wholeSum}
+use Rattle.dots_whole.specs.Inner.{FiveBits}
 
 -- ---- a block of our quantizer
 

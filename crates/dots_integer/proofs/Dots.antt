@@ -11,8 +11,9 @@ use Rattle.layouts.specs.Formats.{hasMinimums}
 use Rattle.layouts.specs.K.{quantK}
 use Rattle.layouts.specs.declared.format.FormatK.{FormatK}
 use Rattle.dots_activation.specs.Whole.{elem, sumℤ}
-use Rattle.dots_integer.specs.Dots.{weighedAt, scaledSum, scaledDot, blockDot}
-use Rattle.dots_integer.proofs.Runs.{laid-out, cut-sum}
+use Rattle.dots_whole.specs.Sums.{weighedAt}
+use Rattle.dots_whole.proofs.Runs.{laid-out, cut-sum}
+use Rattle.dots_integer.specs.Dots.{scaledSum, scaledDot, blockDot}
 
 -- h is the scale d, and a the float of s, which is the sum z
 pub scaled-is : {h a d : Float} {s z : ℤ} (dx : Float) → h ≡ d → a ≡ ofInt binary32 s → s ≡ z → mul binary32 (mul binary32 h dx) a ≡ scaledSum d dx z

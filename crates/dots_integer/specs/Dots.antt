@@ -3,30 +3,18 @@ use Prim.Native.Nat.{ℕ, min}
 use mathlib.Core.Bool.{Bool, true, not, cond}
 use mathlib.Core.List.{List}
 use lib.Dec.{ltb}
-use lib.IntN.{ℤ, pos, _*ℤ_}
+use lib.IntN.{ℤ}
 use lib.ListN.{length, take}
 use lib.Ieee.{Float, binary32, mul, sub, ofInt}
 use Rattle.refusals.specs.Said.{Said, value, no}
 use Rattle.refusals.specs.Refusals.{given}
 use Rattle.layouts.specs.Formats.{bytesK, hasMinimums}
 use Rattle.layouts.specs.Counts.{weightsShort}
-use Rattle.layouts.specs.K.{quantK, scaleK, minimumQ4K, dOf, dminOf}
+use Rattle.layouts.specs.K.{dOf, dminOf}
 use Rattle.layouts.specs.declared.format.FormatK.{FormatK}
 use Rattle.dots_activation.specs.declared.block.Q8Block.{Q8Block}
-use Rattle.dots_activation.specs.Whole.{elem, sumℤ}
 use Rattle.dots_activation.specs.Blocks.{sumsRight}
-
--- scale times q times activation quant at place i
-abbrev pub weighedAt : FormatK → List ℕ → (ℕ → ℤ) → List ℤ → ℕ → ℤ
-weighedAt f w q qs i = scaleK f w i *ℤ (q i *ℤ elem qs i)
-
--- A and B: the sum of scale times q times activation quant over the places below n
-abbrev pub wholeSum : FormatK → List ℕ → List ℤ → ℕ → ℤ
-wholeSum f w qs n = sumℤ (weighedAt f w (quantK f w) qs) n
-
--- M uses all eight sums
-abbrev pub minimumSum : List ℕ → List ℤ → ℤ
-minimumSum w sums = sumℤ (λ (j : ℕ). pos (minimumQ4K w j) *ℤ elem sums j) 8
+use Rattle.dots_whole.specs.Sums.{wholeSum, minimumSum}
 
 -- (d*dx) times a whole-number sum
 abbrev pub scaledSum : Float → Float → ℤ → Float

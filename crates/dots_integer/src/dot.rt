@@ -1,10 +1,10 @@
 // The dot of one packed block and one activation block.
-use crate::whole::cut;
-use crate::whole::minimum_sum;
-use crate::whole::sum_by_runs;
-use crate::whole::sum_by_sub_blocks;
 use dots_activation::Q8Block;
 use dots_activation::sums_right;
+use dots_whole::cut;
+use dots_whole::minimum_sum;
+use dots_whole::sum_by_runs;
+use dots_whole::sum_by_sub_blocks;
 use layouts::Format;
 use layouts::FormatK;
 use refusals::Answer;
@@ -20,8 +20,9 @@ ghost use Rattle.layouts.specs.Formats.{bytesK, hasMinimums};
 ghost use Rattle.layouts.specs.K.{dOf};
 ghost use Rattle.dots_activation.specs.Whole.{elem, sumℤ};
 ghost use Rattle.dots_activation.specs.Blocks.{SmallSums, blockIn};
-ghost use Rattle.dots_integer.specs.Inner.{FiveBits};
-ghost use Rattle.dots_integer.specs.Dots.{weighedAt, scaledSum, scaledDot, blockDot};
+ghost use Rattle.dots_whole.specs.Sums.{weighedAt};
+ghost use Rattle.dots_whole.specs.Inner.{FiveBits};
+ghost use Rattle.dots_integer.specs.Dots.{scaledSum, scaledDot, blockDot};
 ghost use Rattle.dots_integer.specs.Dots.{sumsServe, blockDotSays};
 
 // The f16 field at i.

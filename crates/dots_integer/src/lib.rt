@@ -1,6 +1,5 @@
 // The dots of packed weights and activation blocks: sums of weights times small integers, exact in whole numbers.
 mod dot;
-mod whole;
 
 pub use dot::block_dot;
 pub use dot::block_dot_below;
