@@ -1,4 +1,5 @@
--- Document 01, "Readings to small integers": the dot of a packed block and an activation block. Definitions only.
+-- Document 01, "Readings to small integers", and document 02, P9: the dot of a packed block and an activation block.
+-- Definitions only.
 use Prim.Native.Nat.{ℕ, min}
 use mathlib.Core.Bool.{Bool, true, not, cond}
 use mathlib.Core.List.{List}
@@ -13,7 +14,7 @@ use Rattle.layouts.specs.Counts.{weightsShort}
 use Rattle.layouts.specs.K.{dOf, dminOf}
 use Rattle.layouts.specs.declared.format.FormatK.{FormatK}
 use Rattle.dots_activation.specs.declared.block.Q8Block.{Q8Block}
-use Rattle.dots_activation.specs.Blocks.{sumsRight}
+use Rattle.dots_activation.specs.Blocks.{countServes, sumsRight}
 use Rattle.dots_whole.specs.Sums.{wholeSum, minimumSum}
 
 -- (d*dx) times a whole-number sum
@@ -38,11 +39,12 @@ dotWith f w b n = blockDot f w (b .d) (b .qs) (b .bsums) n
 abbrev pub sumsServe : FormatK → List ℤ → List ℤ → Bool
 sumsServe f qs sums = cond (hasMinimums f) (sumsRight qs sums) true
 
--- `dot_q4k_q8_block`, `dot_q5k_q8_block`, `dot_q6k_q8_block`: fewer weights than needed; sums that aren't the sums of
--- their 32s; and otherwise its formula, also at n = 0. A block dot needs one whole block and takes n above 256 as 256;
--- surplus weights are ignored.
+-- `dot_q4k_q8_block`, `dot_q5k_q8_block`, `dot_q6k_q8_block`: fewer weights than needed; a block that isn't of n
+-- readings, or has a quant past them; sums that aren't the sums of their 32s; and otherwise its formula, also at n = 0.
+-- A block dot needs one whole block and takes n above 256 as 256; surplus weights are ignored.
 unfoldable pub blockDotSays : FormatK → List ℕ → Q8Block → ℕ → Said Float
 blockDotSays f w b n =
     given (weightsShort f (length w) 1) (ltb (length w) (bytesK f))
+    (given (no 15) (not (countServes (b .qs) (b .count) n))
     (given (no 7) (not (sumsServe f (b .qs) (b .bsums)))
-    (value (dotWith f (take (bytesK f) w) b (min n 256))))
+    (value (dotWith f (take (bytesK f) w) b (min n 256)))))

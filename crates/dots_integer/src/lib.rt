@@ -2,7 +2,6 @@
 mod dot;
 
 pub use dot::block_dot;
-pub use dot::block_dot_below;
 pub use dot::dot_q4k_q8_block;
 pub use dot::dot_q5k_q8_block;
 pub use dot::dot_q6k_q8_block;

@@ -1,4 +1,4 @@
-// The whole-number sums of a block dot: scale times quant times activation quant over the places below n, and the
+// The whole-number sums of a block dot: scale times quant times activation quant over all places, and the
 // minimums times the sums. A sub-block of 32 or a run of 16 has one scale, so that several of its products are summed
 // first. Whatever the bytes are, i16 holds four products of a quant of at most five bits, 4 x 31 x 128 = 15,872 in
 // size, and i32 every sum: of a format with minimums at most 64 x 63 x 15,872, and 16 runs of 16 x 128 x 128, each
@@ -6,8 +6,6 @@
 use layouts::FormatK;
 ghost use mathlib.Core.Path.{_≡_};
 ghost use Prim.Native.Nat.{_+_, _*_, _≤_, _<_};
-ghost use mathlib.Core.Bool.{cond};
-ghost use lib.Dec.{ltb};
 ghost use lib.IntN.{ℤ, pos, _+ℤ_, _*ℤ_};
 ghost use lib.ListN.{length, getD};
 ghost use Rattle.memory.specs.Lists.{table};
@@ -143,18 +141,6 @@ pub fn sum_by_runs(w: &[u8], q: &[i8; 256], x: &[i8]) -> i32
         a += weighed(numbers::signed_byte(w[192 + e]), run(q, x, e));
     }
     a
-}
-
-// The quants below n, and 0 from there on.
-pub fn cut(x: [i8; 256], n: usize) -> [i8; 256]
-    requires { ⌜ n ≤ 256 ⌝ }
-    ensures { λ r. ⌜ r ≡ table (λ i. cond (ltb i n) (elem x i) (pos 0)) 256 ⌝ }
-{
-    let mut r = x;
-    for i in n..256usize {
-        r[i] = 0;
-    }
-    r
 }
 
 // The minimums times the activation block's sums, all eight.
