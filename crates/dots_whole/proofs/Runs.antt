@@ -1,17 +1,12 @@
 -- The whole-number sum by stretches, sub-blocks or runs: a scale times the sum of its stretch's products is the sum of what its places weigh. Assumes nothing.
 use mathlib.Core.Path.{_≡_, sym, ap, _∙_}
-use mathlib.Core.Bool.{Bool, cond}
 use mathlib.Core.List.{List}
 use Prim.Native.Nat.{ℕ, _+_, _*_, _/_, _≤_, _<_}
 use native.Mathlib.Nat.{mul-comm}
 use native.Mathlib.Omega.{arith}
-use borrow.Author.Tests.{lt-ltb, le-ltb}
 use lib.Arith.{digits-div}
-use lib.Dec.{ltb}
 use lib.IntN.{ℤ, pos, _*ℤ_, *ℤ-zero}
 use lib.ListN.{getD}
-use Rattle.memory.specs.Lists.{table}
-use Rattle.memory.proofs.Filled.{getD-table}
 use Rattle.layouts.specs.Formats.{hasMinimums, runLength}
 use Rattle.layouts.specs.K.{scaleIn, scaleK}
 use Rattle.layouts.specs.declared.format.FormatK.{FormatK}
@@ -19,10 +14,6 @@ use Rattle.layouts.proofs.Minimums.{same-scale}
 use Rattle.dots_activation.specs.Whole.{elem, sumℤ}
 use Rattle.dots_activation.proofs.Ranges.{sum-same, sum-scale, sum-runs, sum-cut}
 use Rattle.dots_whole.specs.Sums.{weighedAt}
-
--- the places of a list that a rule made
-pub table-at : {A : Type 0} {l : List A} (g : ℕ → A) (d : A) → l ≡ table g 256 → (i : ℕ) → i < 256 → getD l i d ≡ g i
-table-at {A} {l} g d e i h = ap (λ (m : List A). getD m i d) e ∙ getD-table g 256 i d h
 
 -- the quant at place i of bytes q
 abbrev pub byteOf : List ℕ → ℕ → ℤ
@@ -58,16 +49,5 @@ module _ (f : FormatK) (w : List ℕ) (q : ℕ → ℤ) (x : List ℤ) where
   weighs i z = scaleK f w i *ℤ (q i *ℤ z)
 
   -- activation quants that are 0 from n on: the sum stops there
-  pub cut-sum : (y : List ℤ) (n : ℕ) → n ≤ 256 → y ≡ table (λ i. cond (ltb i n) (elem x i) (pos 0)) 256 → sumℤ (weighedAt f w q y) 256 ≡ sumℤ (weighedAt f w q x) n
-  cut-sum y n h e =
-      sum-cut (weighedAt f w q y) n 256 h (λ i b p. ap (weighs i) (past i b p) ∙ ap (λ (z : ℤ). scaleK f w i *ℤ z) (*ℤ-zero (q i)) ∙ *ℤ-zero (scaleK f w i))
-      ∙ sum-same (weighedAt f w q y) (weighedAt f w q x) n (λ i p. ap (weighs i) (kept i p))
-    where
-      at : (i : ℕ) → i < 256 → elem y i ≡ cond (ltb i n) (elem x i) (pos 0)
-      at = table-at (λ i. cond (ltb i n) (elem x i) (pos 0)) (pos 0) e
-
-      past : (i : ℕ) → n ≤ i → i < 256 → elem y i ≡ pos 0
-      past i b p = at i p ∙ ap (λ (t : Bool). cond t (elem x i) (pos 0)) (le-ltb i n b)
-
-      kept : (i : ℕ) → i < n → elem y i ≡ elem x i
-      kept i p = at i (omega arith) ∙ ap (λ (t : Bool). cond t (elem x i) (pos 0)) (lt-ltb i n p)
+  pub sum-below : (n : ℕ) → n ≤ 256 → ((i : ℕ) → n ≤ i → i < 256 → elem x i ≡ pos 0) → sumℤ (weighedAt f w q x) 256 ≡ sumℤ (weighedAt f w q x) n
+  sum-below n h z = sum-cut (weighedAt f w q x) n 256 h (λ i b p. ap (weighs i) (z i b p) ∙ ap (λ (y : ℤ). scaleK f w i *ℤ y) (*ℤ-zero (q i)) ∙ *ℤ-zero (scaleK f w i))
