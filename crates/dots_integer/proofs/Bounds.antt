@@ -13,7 +13,7 @@ use lib.Ieee.{Float, nan, binary32, ofBits, le, add, mul}
 use mir.Syntax.{w32}
 use mir.Val.{SFits}
 use Rattle.memory.specs.Lists.{table}
-use Rattle.memory.proofs.Filled.{getD-table}
+use Rattle.memory.proofs.Filled.{length-table, getD-table}
 use Rattle.memory.proofs.Every.{every-all}
 use Rattle.numbers.specs.Fields.{signed}
 use Rattle.numbers.specs.Steps.{nought, truncated}
@@ -60,6 +60,11 @@ quant-within xs inv i = by (ltb i (length xs))
     by false = pos-within (omega arith)
 
 module _ (xs : List Float) where
+  -- it has 256 quants and eight sums, ..
+  pub block-long : (length (blockOf xs .qs) ≡ 256) × (length (blockOf xs .bsums) ≡ 8)
+  unfolding blockOf
+  block-long = (length-table _ 256, length-table _ 8)
+
   pub quants-within : (i : ℕ) → i < 256 → Within 127 (elem (quantsOf xs) i)
   quants-within i h = subst (Within 127) (sym (getD-table (quantAt xs (inverse (scaleQ8 xs))) 256 i (pos 0) h)) (quant-within xs (inverse (scaleQ8 xs)) i)
 
@@ -67,7 +72,7 @@ module _ (xs : List Float) where
   unfolding blockOf
   sum-at j h = getD-table (sumOf32 (quantsOf xs)) 8 j (pos 0) h
 
-  -- its sums are small, ..
+  -- .. its sums are small, ..
   pub small-sums : SmallSums (blockOf xs .bsums)
   small-sums = record {
     near = λ j h. subst (Within 4096) (sym (sum-at j h)) (within (sum-within (λ (l : ℕ). elem (quantsOf xs) (32 * j + l)) 127 32 (λ l p. quants-within (32 * j + l) (omega arith))) (lit≤ tt));
