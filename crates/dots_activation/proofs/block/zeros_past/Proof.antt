@@ -33,11 +33,14 @@ loop-again c =
     let n = k .before .args .n in
     let p = pastIsZero qs n in
     let q = elem qs (l .i) in
-    let past = past-is qs n (l .i) (l .inv .0) in
-    (omega arith, omega arith, ⊎-elim
-      (λ w. w .1 ∙ sym (every-not p (l .i + 1) (l .i) (omega arith) (past ∙ eqZ-not q (pos 0) (λ e. w .0 .taken (ap (ofZ w8) e)))))
-      (λ w. w .1 ∙ l .inv .2 ∙ sym (every-keeps p (l .i) (past ∙ ap (λ (z : ℤ). eqZ z (pos 0)) (sym (read-is w8 q (c .before .if12 .given)) ∙ ap (toZ w8) (w .0 .left)))))
-      (c .if1 .came))
+    let past = past-is qs n (l .i) (l .inv .0) in (
+      omega arith,
+      omega arith,
+      ⊎-elim
+          (λ w. w .1 ∙ sym (every-not p (l .i + 1) (l .i) (omega arith) (past ∙ eqZ-not q (pos 0) (λ e. w .0 .taken (ap (ofZ w8) e)))))
+          (λ w. w .1 ∙ l .inv .2 ∙ sym (every-keeps p (l .i) (past ∙ ap (λ (z : ℤ). eqZ z (pos 0)) (sym (read-is w8 q (c .before .if12 .given)) ∙ ap (toZ w8) (w .0 .left)))))
+          (c .if1 .came),
+    )
 
 returns : tie.Need-returns Inv-loop μ-loop
 returns c =
