@@ -48,12 +48,15 @@
  * NaN. Every other result has the bits that its contract says. Where a result is a NaN, the bits
  * may be those of any NaN.
  *
- * Stack. A call needs at most so many bytes of stack (`tools/stack` measures them). memcpy and
- * memset, which the library takes from C, are not counted. A * is for any letters of a name.
+ * Stack. A call needs at most so many bytes of stack, on every processor for which the library is
+ * delivered (`tools/stack` measures them). memcpy and memset, which the library takes from C, are not
+ * counted. A * is for any letters of a name.
  *   163,840   linear_*_integer, linear_*_integer_rs
+ *     8,192   the same, rows of up to 4,096 readings
  *     5,120   integer_dot_*
  *     4,096   canonical_dot_*_fused, q6k_fused_f32_dot, linear_*_fused, linear_*_cpu, piece, run
- *     2,048   quantize_block_q8, dot_*_q8_block
+ *     2,560   dot_*_q8_block
+ *     2,048   quantize_block_q8, dequantize_*
  *     1,024   every other call
  *
  * Licence. Apache License, Version 2.0. Who hands on a binary with this library in it hands on the
