@@ -229,8 +229,14 @@ mod tests {
     #[test]
     fn short_weights_are_told_in_blocks() {
         let told = |found, needed| short(found, needed).to_string();
-        assert_eq!(told(8, 16), "refused 3: 8 whole blocks of weights, 16 needed");
-        assert_eq!(told(1, 16), "refused 3: 1 whole block of weights, 16 needed");
+        assert_eq!(
+            told(8, 16),
+            "refused 3: 8 whole blocks of weights, 16 needed"
+        );
+        assert_eq!(
+            told(1, 16),
+            "refused 3: 1 whole block of weights, 16 needed"
+        );
         assert_eq!(told(0, 1), "refused 3: 0 whole blocks of weights, 1 needed");
         assert_eq!(short(8, 16).number(), 3);
     }
