@@ -60,13 +60,18 @@ fn words() -> Vec<(String, String)> {
 #[test]
 fn numbers_are_the_same() {
     let mut ours = vec![("DONE".into(), 0)];
-    ours.extend(Refusal::ALL.map(|refusal| (c_name(refusal), refusal.number())));
+    ours.extend(
+        Refusal::ALL
+            .iter()
+            .map(|refusal| (c_name(refusal), refusal.number())),
+    );
     assert_eq!(numbers("jambharrow_refusal"), ours);
 }
 
 #[test]
 fn words_are_the_same() {
-    let ours = Refusal::ALL.map(|refusal| (c_name(refusal), refusal.to_string()));
+    let pair = |refusal: &Refusal| (c_name(refusal), refusal.words().to_string());
+    let ours: Vec<_> = Refusal::ALL.iter().map(pair).collect();
     assert_eq!(words(), ours);
 }
 
@@ -80,6 +85,7 @@ fn what_is_no_refusal_has_words_of_its_own() {
         panic!("words for done and for an unknown number, and not {own:?}");
     };
     assert_ne!(done, unknown);
+    assert_eq!(unknown, Refusal::Unlisted(99).words());
     for (name, words) in words() {
         assert!(!own.contains(&words), "{name}: {words}");
     }
@@ -118,6 +124,7 @@ fn the_version_is_the_same() {
     let minor = of_crate(env!("CARGO_PKG_VERSION_MINOR"));
     assert_eq!(defined("VERSION_MAJOR"), major);
     assert_eq!(defined("VERSION_MINOR"), minor);
+    assert_eq!(jambharrow::version() as usize, 1_000 * major + minor);
 }
 
 #[test]
@@ -127,4 +134,15 @@ fn sizes_are_the_same() {
     assert_eq!(defined("MOST_BATCH"), MOST_BATCH);
     assert_eq!(defined("MOST_FLOATS"), MOST_FLOATS);
     assert_eq!(defined("MOST_BYTES"), MOST_BYTES);
+    assert_eq!(defined("CHUNK"), Layer::CHUNK);
+    for (name, format) in [("Q4_K", 4), ("Q5_K", 5), ("Q6_K", 6)] {
+        let in_feat = defined(&format!("{name}_BLOCK_VALUES"));
+        let layer = Layer {
+            format,
+            in_feat,
+            out_feat: 1,
+        };
+        let bytes = defined(&format!("{name}_BLOCK_BYTES"));
+        assert_eq!(layer.weight_bytes(), Ok(bytes));
+    }
 }
