@@ -83,7 +83,8 @@ extern "C" {
 typedef uint64_t jambharrow_size;
 
 /* The version of the library that is linked. Where it is not JAMBHARROW_VERSION, the library is not
- * the one that this header was written for. */
+ * the one that this header was delivered with; one of the same major number and a higher minor one
+ * has all that the header declares. */
 uint32_t jambharrow_version(void);
 
 /* What a call that can refuse returns: that it did its work, or why it did not. */

@@ -1,6 +1,12 @@
 //! The crate beside include/jambharrow.h: the same version, numbers, words and sizes.
-use jambharrow::{How, Layer, Refusal, MOST_BATCH, MOST_BYTES, MOST_FLOATS, MOST_IN, MOST_OUT};
+use jambharrow::{
+    dequantize_q4_0, dequantize_q4_k, dequantize_q5_0, dequantize_q5_k, dequantize_q6_k,
+    dequantize_q8_0, How, Layer, Refusal, MOST_BATCH, MOST_BYTES, MOST_FLOATS, MOST_IN, MOST_OUT,
+};
 use std::fmt::Debug;
+
+/// A block decoder.
+type Decoder = fn(&[u8], &mut [f32]) -> Result<(), Refusal>;
 
 const HEADER: &str = include_str!("../../include/jambharrow.h");
 
@@ -135,6 +141,31 @@ fn sizes_are_the_same() {
     assert_eq!(defined("MOST_FLOATS"), MOST_FLOATS);
     assert_eq!(defined("MOST_BYTES"), MOST_BYTES);
     assert_eq!(defined("CHUNK"), Layer::CHUNK);
+}
+
+#[test]
+fn blocks_are_as_long_as_the_header_says() {
+    let decoders: [(&str, Decoder); 6] = [
+        ("Q4_0", dequantize_q4_0),
+        ("Q5_0", dequantize_q5_0),
+        ("Q8_0", dequantize_q8_0),
+        ("Q4_K", dequantize_q4_k),
+        ("Q5_K", dequantize_q5_k),
+        ("Q6_K", dequantize_q6_k),
+    ];
+    for (name, decoder) in decoders {
+        let values = defined(&format!("{name}_BLOCK_VALUES"));
+        let bytes = defined(&format!("{name}_BLOCK_BYTES"));
+        let decode = |bytes, values| decoder(&vec![0; bytes], &mut vec![0.0; values]);
+        assert_eq!(decode(bytes, values), Ok(()));
+        assert_eq!(decode(bytes, values - 1), Err(Refusal::RoomShort));
+        assert_eq!(decode(bytes - 1, values), Err(Refusal::NotWholeBlocks));
+    }
+    assert_eq!(HEADER.matches("_BLOCK_BYTES ").count(), decoders.len());
+}
+
+#[test]
+fn layers_are_as_long_as_the_header_says() {
     for (name, format) in [("Q4_K", 4), ("Q5_K", 5), ("Q6_K", 6)] {
         let in_feat = defined(&format!("{name}_BLOCK_VALUES"));
         let layer = Layer {
