@@ -10,7 +10,7 @@
  * whose four calls are jambharrow_open, _piece, _run and _close, and no Q5_K, whose calls are named
  * after those of Q4_K and take the same parameters. Nor has it Q4_0 in GGML's order, whose calls
  * are named after those of Q4_0, with `_ggml`, and take the same parameters, nor converters between
- * the two orders. A slice is a pointer and, right behind it, how many elements it has. Sizes and
+ * the two orders, nor IQ4_NL, whose calls are named after those of Q4_0. A slice is a pointer and, right behind it, how many elements it has. Sizes and
  * counts are jambharrow_size, of 64 bits on every processor.
  *
  * What a pointer is. A slice's pointer may be null where its number of elements is 0; every other
@@ -166,6 +166,8 @@ static inline const char *jambharrow_refusal_words(uint32_t number)
 /* The values of a block, and its bytes. */
 #define JAMBHARROW_Q4_0_BLOCK_VALUES 32
 #define JAMBHARROW_Q4_0_BLOCK_BYTES 18
+#define JAMBHARROW_IQ4_NL_BLOCK_VALUES 32
+#define JAMBHARROW_IQ4_NL_BLOCK_BYTES 18
 #define JAMBHARROW_Q5_0_BLOCK_VALUES 32
 #define JAMBHARROW_Q5_0_BLOCK_BYTES 22
 #define JAMBHARROW_Q8_0_BLOCK_VALUES 32
@@ -244,6 +246,12 @@ uint32_t jambharrow_dequantize_q5_0(const uint8_t *bytes, jambharrow_size bytes_
 uint32_t jambharrow_dequantize_q8_0(const uint8_t *bytes, jambharrow_size bytes_len,
                                     float *out, jambharrow_size out_len);
 
+/* IQ4_NL: a block is 18 bytes, s and 16 bytes of nibbles, and has 32 values, s * v. Byte j has value
+ * j in its low nibble and value j + 16 in its high one; a nibble from 0 to 15 picks v from
+ *   -127, -104, -83, -65, -49, -35, -22, -10, 1, 13, 25, 38, 53, 69, 89, 113. */
+uint32_t jambharrow_dequantize_iq4_nl(const uint8_t *bytes, jambharrow_size bytes_len,
+                                      float *out, jambharrow_size out_len);
+
 /* Q4_K: a block is 144 bytes, d, dmin, eight scales and minimums of six bits and 128 bytes of
  * nibbles, and has 256 values, (d * scale) * nibble - (dmin * minimum). */
 uint32_t jambharrow_dequantize_q4_k(const uint8_t *bytes, jambharrow_size bytes_len,
@@ -264,8 +272,8 @@ uint32_t jambharrow_dequantize_q6_k(const uint8_t *bytes, jambharrow_size bytes_
 /* Block quantizers: 32 readings become a scale and 32 small integers.
  *
  * Each writes the bytes of every block, in order, at the front of `out`, and keeps the places
- * behind them. The scale is stored by jambharrow_f32_to_f16, and readings are brought to integers
- * by the inverse of the scale before it is stored. `lost` counts the blocks for whose scale that
+ * behind them. A scale that is picked is stored by jambharrow_f32_to_f16, and readings are brought
+ * to integers by the inverse of the scale before it is stored. `lost` counts the blocks for whose scale that
  * says JAMBHARROW_FLUSHED, and those for whose scale it says JAMBHARROW_SENT_TO_INFINITY. Each
  * refuses, in this order, with
  *   JAMBHARROW_TOO_LARGE        more than JAMBHARROW_MOST_FLOATS readings;
@@ -289,6 +297,15 @@ uint32_t jambharrow_quantize_q4_0_ggml(const float *x, jambharrow_size x_len,
  * and 127 * 2^16 or more. */
 uint32_t jambharrow_quantize_q8_0(const float *x, jambharrow_size x_len,
                                   uint8_t *out, jambharrow_size out_len, jambharrow_size lost[2]);
+
+/* IQ4_NL: 18 bytes to 32 readings. The scale is given, the bits of a binary16, and every block stores
+ * them as they are; none is picked, so none is lost. Each reading is brought to an integer as in an
+ * activation block whose d is the scale, widened: times the inverse, which is 0 where d is 0, to the
+ * nearest whole number, within -127 to 127, and 0 for a NaN. The nibble is that of the value nearest
+ * to the integer, the lower of two as near. A scale that is a zero, an infinity or a NaN makes every
+ * integer 0 and every nibble 8, whose value is 1. */
+uint32_t jambharrow_quantize_iq4_nl(const float *x, jambharrow_size x_len, uint16_t scale,
+                                    uint8_t *out, jambharrow_size out_len);
 
 /* Converters between the two orders of Q4_0: the nibbles of each block move to the places of the
  * other order, so that the other order's decoder gives the same values. The two bytes of its scale
@@ -554,6 +571,14 @@ uint32_t jambharrow_linear_q4_0_ggml_cpu(const float *x, jambharrow_size x_len,
                                          float *scratch, jambharrow_size scratch_len,
                                          jambharrow_size batch, jambharrow_size in_feat,
                                          jambharrow_size out_feat);
+
+/* IQ4_NL: the same as Q4_0. */
+uint32_t jambharrow_linear_iq4_nl_cpu(const float *x, jambharrow_size x_len,
+                                      const uint8_t *w, jambharrow_size w_len,
+                                      float *y, jambharrow_size y_len,
+                                      float *scratch, jambharrow_size scratch_len,
+                                      jambharrow_size batch, jambharrow_size in_feat,
+                                      jambharrow_size out_feat);
 
 /* The stepped layer: a layer worked one piece of one row at a time, so that the work may stop after
  * any call and go on at a later one.

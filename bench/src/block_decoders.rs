@@ -1,7 +1,7 @@
 //! The block decoders, over the blocks of one K block's values, of a row of the logger, and of many.
 use crate::calls::Call;
 use crate::measure::{Beside, Row, Size};
-use crate::{q4_0_ggml, q5_k};
+use crate::{iq4_nl, q4_0_ggml, q5_k};
 use jambharrow::Refusal;
 use oracle::inputs::{self, any_scale, trained_scale, Draw, Layout};
 use oracle::ops::quant;
@@ -52,6 +52,18 @@ pub const DEQUANTIZE_Q8_0: Call = Call {
             1.0,
             jambharrow::dequantize_q8_0,
             quant::dequantize_q8_0,
+        )
+    },
+};
+
+pub const DEQUANTIZE_IQ4_NL: Call = Call {
+    name: "dequantize_iq4_nl",
+    rows: || {
+        rows(
+            &inputs::IQ4_NL,
+            1.0,
+            jambharrow::dequantize_iq4_nl,
+            iq4_nl::dequantize_iq4_nl,
         )
     },
 };

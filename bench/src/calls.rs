@@ -2,7 +2,7 @@
 use crate::measure::Row;
 use crate::{
     activation_blocks, binary16, block_converters, block_decoders, block_quantizers,
-    fixed_order_sums, fused_dots, linear_layers, stepped_calls, stepped_layer,
+    fixed_order_sums, fused_dots, given_scales, linear_layers, stepped_calls, stepped_layer,
 };
 
 pub struct Call {
@@ -13,19 +13,21 @@ pub struct Call {
 }
 
 /// Every public call, in the order of the table, and last the stepped layer as a whole.
-pub static CALLS: [Call; 45] = [
+pub static CALLS: [Call; 48] = [
     binary16::F16_TO_F32,
     binary16::F32_TO_F16,
     block_decoders::DEQUANTIZE_Q4_0,
     block_decoders::DEQUANTIZE_Q4_0_GGML,
     block_decoders::DEQUANTIZE_Q5_0,
     block_decoders::DEQUANTIZE_Q8_0,
+    block_decoders::DEQUANTIZE_IQ4_NL,
     block_decoders::DEQUANTIZE_Q4_K,
     block_decoders::DEQUANTIZE_Q5_K,
     block_decoders::DEQUANTIZE_Q6_K,
     block_quantizers::QUANTIZE_Q4_0,
     block_quantizers::QUANTIZE_Q4_0_GGML,
     block_quantizers::QUANTIZE_Q8_0,
+    given_scales::QUANTIZE_IQ4_NL,
     block_converters::Q4_0_TO_GGML,
     block_converters::Q4_0_FROM_GGML,
     fixed_order_sums::CANONICAL_CHUNK,
@@ -54,6 +56,7 @@ pub static CALLS: [Call; 45] = [
     linear_layers::LINEAR_Q6_K_CPU,
     linear_layers::LINEAR_Q4_0_CPU,
     linear_layers::LINEAR_Q4_0_GGML_CPU,
+    linear_layers::LINEAR_IQ4_NL_CPU,
     stepped_calls::OPEN,
     stepped_calls::PIECE,
     stepped_calls::RUN,

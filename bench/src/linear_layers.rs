@@ -1,10 +1,10 @@
 //! The layers, over one row of readings.
 use crate::calls::Call;
 use crate::measure::{Beside, Row, Size};
-use crate::{q4_0_ggml, q5_k};
+use crate::{iq4_nl, q4_0_ggml, q5_k};
 use jambharrow::Refusal;
 use oracle::error::Result as RustResult;
-use oracle::inputs::{reading, trained_scale, Layout, Q4_0, Q4_K, Q5_K, Q6_K};
+use oracle::inputs::{reading, trained_scale, Layout, IQ4_NL, Q4_0, Q4_K, Q5_K, Q6_K};
 use oracle::ops::quant;
 use oracle::random::Random;
 use std::hint::black_box;
@@ -110,6 +110,14 @@ pub const LINEAR_Q4_0_GGML_CPU: Call = Call {
     rows: || {
         let rust = q4_0_ggml::linear_q4_0_ggml_cpu;
         rows_cpu(&Q4_0, jambharrow::linear_q4_0_ggml_cpu, rust)
+    },
+};
+
+pub const LINEAR_IQ4_NL_CPU: Call = Call {
+    name: "linear_iq4_nl_cpu",
+    rows: || {
+        let rust = iq4_nl::linear_iq4_nl_cpu;
+        rows_cpu(&IQ4_NL, jambharrow::linear_iq4_nl_cpu, rust)
     },
 };
 

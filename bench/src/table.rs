@@ -15,7 +15,8 @@ binary16: `f32_to_f16` of its number, the block quantizers of their scales. The 
 beside these calls stands code of ours in the shape of its Q4_K (bench/src/q5_k.rs). It has no Q4_0
 in GGML's order: beside these calls stands code of ours in the shape of its Q4_0
 (bench/src/q4_0_ggml.rs), and beside the two converters its decoder of Q4_0, on the same blocks. It
-has no stepped layer: beside `piece` stands its dot of the same chunk, beside `run` over all pieces
+has no IQ4_NL: beside these calls stand plain loops of ours (bench/src/iq4_nl.rs). It has no stepped
+layer: beside `piece` stands its dot of the same chunk, beside `run` over all pieces
 its layer in one go, beside `close` its tree over the same sums, and beside `open` nothing. Beside a
 layer by steps, from its open to the close of its last row, stands the same layer in one go, which
 is ours too.";

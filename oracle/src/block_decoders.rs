@@ -2,7 +2,7 @@
 use crate::calls::Call;
 use crate::compare::Comparison;
 use crate::packed_blocks::BlockCall;
-use crate::{q4_0_ggml, q5_k};
+use crate::{iq4_nl, q4_0_ggml, q5_k};
 use jambharrow::Refusal;
 use oracle::error::Result as RustResult;
 use oracle::inputs::{self, Layout};
@@ -50,6 +50,15 @@ pub const DEQUANTIZE_Q4_0_GGML: Call = Call {
     sample: |records| Q4_0_GGML.sample(records),
 };
 
+pub const DEQUANTIZE_IQ4_NL: Call = Call {
+    name: "dequantize_iq4_nl",
+    compare: |comparison| {
+        let case = |bytes: &[u8], room| IQ4_NL.case(bytes, room);
+        IQ4_NL.compare(comparison, RUNS_BY_REFERENCE, case);
+    },
+    sample: |records| IQ4_NL.sample(records),
+};
+
 const Q4_0: BlockCall<f32> = decoder(
     inputs::Q4_0,
     quant::dequantize_q4_0,
@@ -88,6 +97,12 @@ const Q4_0_GGML: BlockCall<f32> = decoder(
     jambharrow::dequantize_q4_0_ggml,
 );
 
+const IQ4_NL: BlockCall<f32> = decoder(
+    inputs::IQ4_NL,
+    iq4_nl::dequantize,
+    jambharrow::dequantize_iq4_nl,
+);
+
 /// A decoder on both sides: it writes a place for each value.
 const fn decoder(
     layout: Layout,
@@ -104,6 +119,8 @@ const fn decoder(
 
 /// How many runs of blocks are compared.
 const RUNS: u64 = 1 << 14;
+/// The same of IQ4_NL, of which nothing but the reference says what its blocks mean.
+const RUNS_BY_REFERENCE: u64 = 1 << 18;
 
 fn compare(decoder: &BlockCall<f32>, comparison: &mut Comparison) {
     decoder.compare(comparison, RUNS, |bytes, room| decoder.case(bytes, room));

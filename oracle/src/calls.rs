@@ -3,7 +3,7 @@ use crate::compare::Comparison;
 use crate::sample::Records;
 use crate::{
     activation_blocks, binary16, block_converters, block_decoders, block_quantizers,
-    fixed_order_sums, fused_dots, linear_layers, stepped_layer,
+    fixed_order_sums, fused_dots, given_scales, linear_layers, stepped_layer,
 };
 
 pub struct Call {
@@ -17,7 +17,7 @@ pub struct Call {
 
 /// Every call. A call's tag in the stored sample is its place here, so that a new one comes
 /// last.
-pub static CALLS: [Call; 41] = [
+pub static CALLS: [Call; 44] = [
     binary16::F16_TO_F32,
     binary16::F32_TO_F16,
     block_decoders::DEQUANTIZE_Q4_0,
@@ -59,4 +59,7 @@ pub static CALLS: [Call; 41] = [
     linear_layers::LINEAR_Q4_0_GGML_CPU,
     block_converters::Q4_0_TO_GGML,
     block_converters::Q4_0_FROM_GGML,
+    block_decoders::DEQUANTIZE_IQ4_NL,
+    given_scales::QUANTIZE_IQ4_NL,
+    linear_layers::LINEAR_IQ4_NL_CPU,
 ];

@@ -24,6 +24,11 @@ pub const Q8_0: Layout = Layout {
     values: 32,
     scales: &[0],
 };
+pub const IQ4_NL: Layout = Layout {
+    bytes: 18,
+    values: 32,
+    scales: &[0],
+};
 pub const Q4_K: Layout = Layout {
     bytes: 144,
     values: 256,

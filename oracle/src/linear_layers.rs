@@ -2,7 +2,7 @@
 use crate::calls::Call;
 use crate::laws;
 use crate::layers::{Kind, Layer};
-use crate::{q4_0_ggml, q5_k};
+use crate::{iq4_nl, q4_0_ggml, q5_k};
 use oracle::inputs;
 use oracle::ops::quant;
 
@@ -91,6 +91,12 @@ pub const LINEAR_Q4_0_GGML_CPU: Call = Call {
     name: "linear_q4_0_ggml_cpu",
     compare: |comparison| Q4_0_GGML_CPU.compare(comparison),
     sample: |records| Q4_0_GGML_CPU.sample(records),
+};
+
+pub const LINEAR_IQ4_NL_CPU: Call = Call {
+    name: "linear_iq4_nl_cpu",
+    compare: |comparison| IQ4_NL_CPU.compare(comparison),
+    sample: |records| IQ4_NL_CPU.sample(records),
 };
 
 const Q4_K_FUSED: Layer = Layer {
@@ -207,5 +213,14 @@ const Q4_0_GGML_CPU: Layer = Layer {
     kind: Kind::Cpu {
         ours: jambharrow::linear_q4_0_ggml_cpu,
         decode: q4_0_ggml::dequantize,
+    },
+};
+
+const IQ4_NL_CPU: Layer = Layer {
+    layout: inputs::IQ4_NL,
+    other: iq4_nl::linear_cpu,
+    kind: Kind::Cpu {
+        ours: jambharrow::linear_iq4_nl_cpu,
+        decode: iq4_nl::dequantize,
     },
 };

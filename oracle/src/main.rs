@@ -1,6 +1,7 @@
 //! Holds Jambharrow to the Rust, call by call, and the program `fillin` to the Rust's row dots; stores
-//! a sample of the Rust's answers and the record files of the gate. The Rust has no Q5_K, and no Q4_0
-//! in GGML's order: there the other side is a reference by the published layout (`q5_k`, `q4_0_ggml`).
+//! a sample of the Rust's answers and the record files of the gate. The Rust has no Q5_K, no IQ4_NL,
+//! and no Q4_0 in GGML's order: there the other side is a reference by the published layout (`q5_k`,
+//! `iq4_nl`, `q4_0_ggml`).
 //! Nor does it say what a scale lost: that is judged by values (`narrowing`). Two laws of document 02
 //! hold ours to itself (`laws`).
 mod activation_blocks;
@@ -17,7 +18,9 @@ mod fixed_order_sums;
 mod formats;
 mod fused_dots;
 mod gate_records;
+mod given_scales;
 mod held;
+mod iq4_nl;
 mod laws;
 mod layer_cases;
 mod layers;

@@ -56,7 +56,7 @@ const fn refused(call: &'static str, record: usize, part: usize, untouched: usiz
     }
 }
 
-pub static FAMILIES: [Family; 9] = [
+pub static FAMILIES: [Family; 10] = [
     // A float; a half, and how the number fared.
     Family {
         name: "binary16",
@@ -137,5 +137,13 @@ pub static FAMILIES: [Family; 9] = [
     Family {
         name: "block converters",
         answers: &[wrong("q4_0_to_ggml", 0, 3), wrong("q4_0_to_ggml", 0, 4)],
+    },
+    // The number, and the output.
+    Family {
+        name: "given scales",
+        answers: &[
+            wrong("quantize_iq4_nl", 0, 4),
+            wrong("quantize_iq4_nl", 0, 5),
+        ],
     },
 ];

@@ -55,6 +55,25 @@ pub fn dequantize_q8_0(bytes: &[u8], out: &mut [f32]) -> Result<(), Refusal> {
     decode(sys::jambharrow_dequantize_q8_0, bytes, out)
 }
 
+/// Does with IQ4_NL blocks, 18 bytes to 32 values, what [`dequantize_q4_0`] does with its own: byte j
+/// of the nibbles has value j in its low nibble and value j + 16 in its high one, and a nibble picks
+/// from sixteen values, which is multiplied by the scale.
+///
+/// ```
+/// // The scale is 2. The first byte picks the lowest of the sixteen values, -127, and the highest,
+/// // 113; all others pick 1.
+/// let mut block = [0x88; 18];
+/// block[..3].copy_from_slice(&[0x00, 0x40, 0xF0]);
+/// let mut out = [0.0; 32];
+/// jambharrow::dequantize_iq4_nl(&block, &mut out)?;
+/// assert_eq!([out[0], out[1], out[16]], [-254.0, 2.0, 226.0]);
+/// # Ok::<(), jambharrow::Refusal>(())
+/// ```
+#[inline]
+pub fn dequantize_iq4_nl(bytes: &[u8], out: &mut [f32]) -> Result<(), Refusal> {
+    decode(sys::jambharrow_dequantize_iq4_nl, bytes, out)
+}
+
 /// Does with Q4_K blocks, 144 bytes to 256 values, what [`dequantize_q4_0`] does with its own.
 #[inline]
 pub fn dequantize_q4_k(bytes: &[u8], out: &mut [f32]) -> Result<(), Refusal> {
@@ -139,6 +158,28 @@ mod tests {
     }
 
     #[test]
+    fn every_nibble_picks_its_value() {
+        const VALUES: [f32; 16] = [
+            -127.0, -104.0, -83.0, -65.0, -49.0, -35.0, -22.0, -10.0, 1.0, 13.0, 25.0, 38.0, 53.0,
+            69.0, 89.0, 113.0,
+        ];
+        // The scale is -0.5; byte j has the nibbles j and 15 - j.
+        let mut block = [0; 18];
+        block[..2].copy_from_slice(&[0x00, 0xB8]);
+        for j in 0..16 {
+            block[2 + usize::from(j)] = j | (15 - j) << 4;
+        }
+        let picked = |place: usize| match place {
+            0..16 => VALUES[place],
+            _ => VALUES[31 - place],
+        };
+        assert_eq!(
+            decoded(dequantize_iq4_nl, &block),
+            std::array::from_fn(|place| -0.5 * picked(place))
+        );
+    }
+
+    #[test]
     fn a_block_of_256_values() {
         let mut out = [0.0; 256];
         let mut q4_k = [0; 144];
@@ -192,7 +233,7 @@ mod tests {
     #[test]
     fn refusals_come_in_their_order_and_keep_the_output() {
         let many = vec![0; MOST_BYTES + 1];
-        for decoder in [dequantize_q4_0, dequantize_q4_0_ggml] {
+        for decoder in [dequantize_q4_0, dequantize_q4_0_ggml, dequantize_iq4_nl] {
             let mut out = [7.0; 31];
             assert_eq!(decoder(&many, &mut out), Err(Refusal::TooLarge));
             assert_eq!(decoder(&[0; 19], &mut out), Err(Refusal::NotWholeBlocks));

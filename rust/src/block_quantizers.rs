@@ -74,6 +74,35 @@ pub fn quantize_q8_0(data: &[f32], out: &mut [u8]) -> Result<Lost, Refusal> {
     quantize(sys::jambharrow_quantize_q8_0, data, out)
 }
 
+/// Writes the readings as IQ4_NL blocks, 18 bytes to 32 readings, in order at the front of `out`, and
+/// keeps the places behind them. The scale is given, the bits of a binary16, and every block stores
+/// them as they are; none is picked, so none is lost. A reading becomes an integer from -127 to 127,
+/// by the rule of [`quantize_block_q8`](crate::quantize_block_q8) with the scale, widened, as d, and
+/// its nibble picks the value nearest to that, the lower of two as near. It refuses what
+/// [`quantize_q4_0`] refuses, in the same order.
+///
+/// ```
+/// use jambharrow::{dequantize_iq4_nl, quantize_iq4_nl};
+///
+/// // By a scale of a half 20 becomes 40, and the nearest of the sixteen values is 38. -3.6 becomes
+/// // -7: the nearest is -10.
+/// let mut x = [0.5; 32];
+/// x[..2].copy_from_slice(&[20.0, -3.6]);
+/// let mut bytes = [0; 18];
+/// quantize_iq4_nl(&x, 0x3800, &mut bytes)?;
+/// let mut out = [0.0; 32];
+/// dequantize_iq4_nl(&bytes, &mut out)?;
+/// assert_eq!(out[..3], [19.0, -5.0, 0.5]);
+/// # Ok::<(), jambharrow::Refusal>(())
+/// ```
+#[inline]
+pub fn quantize_iq4_nl(data: &[f32], scale: u16, out: &mut [u8]) -> Result<(), Refusal> {
+    let [data_len, out_len] = [data.len(), out.len()].map(|size| size as Size);
+    let (data, out) = (data.as_ptr(), out.as_mut_ptr());
+    // SAFETY: each pointer and length is a slice's, and what is written is lent to this call alone.
+    done(unsafe { sys::jambharrow_quantize_iq4_nl(data, data_len, scale, out, out_len) })
+}
+
 #[cfg(test)]
 mod tests {
     use super::*;
@@ -217,5 +246,52 @@ mod tests {
             assert_eq!(quantizer(&[0.0; 32], &mut out), Err(Refusal::RoomShort));
             assert_eq!(out, vec![0xEE; block - 1]);
         }
+    }
+
+    /// The nibbles of readings by a scale, which is stored as it is.
+    fn nibbles(scale: u16, data: &[f32; 32]) -> [u8; 32] {
+        let mut out = [0xEE; 19];
+        assert_eq!(quantize_iq4_nl(data, scale, &mut out), Ok(()));
+        assert_eq!(out[..2], scale.to_le_bytes());
+        assert_eq!(out[18], 0xEE);
+        std::array::from_fn(|place| out[2 + place % 16] >> (place / 16 * 4) & 15)
+    }
+
+    #[test]
+    fn the_nearest_value_is_by_the_integer_and_the_lower_on_a_tie() {
+        let mut data = [0.0; 32];
+        // 7 is as far from 1 as from 13, and 7.4 becomes 7; so is -5 from -10 and 1. 127 is over
+        // the highest value, and what is over 127 is held.
+        data[..8].copy_from_slice(&[7.0, 7.4, 7.5, -5.0, -4.0, 127.0, 1e9, -1e9]);
+        data[16] = -127.0;
+        let nibbles = nibbles(0x3C00, &data);
+        assert_eq!(nibbles[..8], [8, 8, 9, 7, 8, 15, 15, 0]);
+        assert_eq!([nibbles[8], nibbles[16], nibbles[17]], [8, 0, 8]);
+    }
+
+    #[test]
+    fn a_given_scale_is_stored_as_it_is() {
+        let mut data = [1.0; 32];
+        data[..3].copy_from_slice(&[f32::NAN, f32::INFINITY, -100.0]);
+        // Zeros, infinities and NaN of either sign, signalling ones too: every integer is 0.
+        for scale in [
+            0x0000, 0x8000, 0x7C00, 0xFC00, 0x7E00, 0xFE00, 0x7C01, 0xFFFF,
+        ] {
+            assert_eq!(nibbles(scale, &data), [8; 32]);
+        }
+        // The least of all, which f32_to_f16 would flush: 2^-24.
+        let tiny = data.map(|reading| reading / 16_777_216.0);
+        assert_eq!(nibbles(0x0001, &tiny)[..4], [8, 15, 1, 8]);
+    }
+
+    #[test]
+    fn what_is_given_its_scale_refuses_in_the_same_order() {
+        let mut out = [0xEE; 17];
+        let mut ask = |count| quantize_iq4_nl(&vec![0.0; count], 0x3C00, &mut out);
+        assert_eq!(ask(MOST_FLOATS + 1), Err(Refusal::TooLarge));
+        assert_eq!(ask(33), Err(Refusal::NotAMultiple));
+        assert_eq!(ask(32), Err(Refusal::RoomShort));
+        assert_eq!(ask(0), Ok(()));
+        assert_eq!(out, [0xEE; 17]);
     }
 }

@@ -12,7 +12,8 @@
 //! after those of Q4_K, and have their formulas and order of operations. Nor has it Q4_0 in GGML's
 //! order, in which other tools write it: [`dequantize_q4_0_ggml`], [`quantize_q4_0_ggml`] and
 //! [`linear_q4_0_ggml_cpu`] work on such blocks, and [`q4_0_to_ggml`] and [`q4_0_from_ggml`] convert
-//! them.
+//! them. Nor has it IQ4_NL: [`dequantize_iq4_nl`], [`linear_iq4_nl_cpu`], and [`quantize_iq4_nl`], which
+//! is given its scale.
 #![cfg_attr(not(test), no_std)]
 
 mod activation_blocks;
@@ -35,18 +36,21 @@ pub use activation_blocks::{
 pub use binary16::{f16_to_f32, f32_to_f16, How, Narrowed};
 pub use block_converters::{q4_0_from_ggml, q4_0_to_ggml};
 pub use block_decoders::{
-    dequantize_q4_0, dequantize_q4_0_ggml, dequantize_q4_k, dequantize_q5_0, dequantize_q5_k,
-    dequantize_q6_k, dequantize_q8_0,
+    dequantize_iq4_nl, dequantize_q4_0, dequantize_q4_0_ggml, dequantize_q4_k, dequantize_q5_0,
+    dequantize_q5_k, dequantize_q6_k, dequantize_q8_0,
 };
-pub use block_quantizers::{quantize_q4_0, quantize_q4_0_ggml, quantize_q8_0, Lost};
+pub use block_quantizers::{
+    quantize_iq4_nl, quantize_q4_0, quantize_q4_0_ggml, quantize_q8_0, Lost,
+};
 pub use fixed_order_sums::{
     canonical_chunk, canonical_combine, canonical_dot_pub, canonical_sum_pub,
 };
 pub use fused_dots::{canonical_dot_q4k_fused, canonical_dot_q5k_fused, q6k_fused_f32_dot};
 pub use linear_layers::{
-    linear_q4_0_cpu, linear_q4_0_ggml_cpu, linear_q4_k_cpu, linear_q4_k_fused, linear_q4_k_integer,
-    linear_q4_k_integer_rs, linear_q5_k_fused, linear_q5_k_integer, linear_q5_k_integer_rs,
-    linear_q6_k_cpu, linear_q6_k_fused, linear_q6_k_integer, linear_q6_k_integer_rs,
+    linear_iq4_nl_cpu, linear_q4_0_cpu, linear_q4_0_ggml_cpu, linear_q4_k_cpu, linear_q4_k_fused,
+    linear_q4_k_integer, linear_q4_k_integer_rs, linear_q5_k_fused, linear_q5_k_integer,
+    linear_q5_k_integer_rs, linear_q6_k_cpu, linear_q6_k_fused, linear_q6_k_integer,
+    linear_q6_k_integer_rs,
 };
 pub use refusal::{Blocks, Refusal};
 pub use stepped_layer::{Layer, Progress};

@@ -334,6 +334,22 @@ pub fn linear_q4_0_ggml_cpu(
     linear_cpu(layer, x, w_q4, y_out, scratch, sizes)
 }
 
+/// Does with IQ4_NL blocks what [`linear_q4_0_cpu`] does with its own.
+#[inline]
+pub fn linear_iq4_nl_cpu(
+    x: &[f32],
+    w_iq4: &[u8],
+    y_out: &mut [f32],
+    scratch: &mut [f32],
+    batch: usize,
+    in_feat: usize,
+    out_feat: usize,
+) -> Result<(), Refusal> {
+    let layer = sys::jambharrow_linear_iq4_nl_cpu;
+    let sizes = [batch, in_feat, out_feat];
+    linear_cpu(layer, x, w_iq4, y_out, scratch, sizes)
+}
+
 #[cfg(test)]
 mod tests {
     use super::*;
@@ -511,6 +527,25 @@ mod tests {
     }
 
     #[test]
+    fn a_row_of_iq4_nl() {
+        // The scale is 1; the first byte picks 113 at place 0 and -127 at place 16, and all others 1.
+        let mut w = [0x88; 18];
+        w[..3].copy_from_slice(&[0x00, 0x3C, 0x0F]);
+        let mut x = [0.0; 32];
+        x[0] = 1.0;
+        x[16] = 2.0;
+        x[31] = 3.0;
+        let (mut y, mut scratch) = ([7.0], [7.0; 33]);
+        assert_eq!(
+            linear_iq4_nl_cpu(&x, &w, &mut y, &mut scratch, 1, 32, 1),
+            Ok(())
+        );
+        assert_eq!(y, [113.0 - 2.0 * 127.0 + 3.0]);
+        assert_eq!([scratch[0], scratch[1], scratch[16]], [113.0, 1.0, -127.0]);
+        assert_eq!(scratch[32], 7.0);
+    }
+
+    #[test]
     fn a_layer_without_readings_looks_at_its_weights_and_writes_nothing() {
         let mut y = [7.0];
         let fused = |w: &[u8], y: &mut [f32]| linear_q4_k_fused(&[], w, y, 0, 256, 1);
@@ -643,8 +678,8 @@ mod tests {
             assert_eq!(of(128, [128, block, 1, 0]), Some(Refusal::WeightsLong));
             assert_eq!(of(256, [256, block, 1, 255]), Some(Refusal::RoomShort));
         }
-        let of_q4_0: [Cpu; 2] = [linear_q4_0_cpu, linear_q4_0_ggml_cpu];
-        for layer in of_q4_0 {
+        let of_32: [Cpu; 3] = [linear_q4_0_cpu, linear_q4_0_ggml_cpu, linear_iq4_nl_cpu];
+        for layer in of_32 {
             let of = |in_feat, lengths| refusal(layer, in_feat, lengths);
             assert_eq!(of(MOST_IN + 1, [0, 0, 0, 0]), Some(Refusal::TooLarge));
             assert_eq!(of(31, [33, 19, 2, 0]), Some(Refusal::NotAMultiple));

@@ -91,6 +91,12 @@ unsafe extern "C" {
         out: *mut f32,
         out_len: Size,
     ) -> u32;
+    pub fn jambharrow_dequantize_iq4_nl(
+        bytes: *const u8,
+        bytes_len: Size,
+        out: *mut f32,
+        out_len: Size,
+    ) -> u32;
     pub fn jambharrow_dequantize_q4_k(
         bytes: *const u8,
         bytes_len: Size,
@@ -130,6 +136,13 @@ unsafe extern "C" {
         out: *mut u8,
         out_len: Size,
         lost: *mut [Size; 2],
+    ) -> u32;
+    pub fn jambharrow_quantize_iq4_nl(
+        x: *const f32,
+        x_len: Size,
+        scale: u16,
+        out: *mut u8,
+        out_len: Size,
     ) -> u32;
 
     pub fn jambharrow_q4_0_to_ggml(
@@ -402,6 +415,19 @@ unsafe extern "C" {
         out_feat: Size,
     ) -> u32;
     pub fn jambharrow_linear_q4_0_ggml_cpu(
+        x: *const f32,
+        x_len: Size,
+        w: *const u8,
+        w_len: Size,
+        y: *mut f32,
+        y_len: Size,
+        scratch: *mut f32,
+        scratch_len: Size,
+        batch: Size,
+        in_feat: Size,
+        out_feat: Size,
+    ) -> u32;
+    pub fn jambharrow_linear_iq4_nl_cpu(
         x: *const f32,
         x_len: Size,
         w: *const u8,

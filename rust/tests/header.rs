@@ -1,7 +1,8 @@
 //! The crate beside include/jambharrow.h: the same version, numbers, words and sizes.
 use jambharrow::{
-    dequantize_q4_0, dequantize_q4_k, dequantize_q5_0, dequantize_q5_k, dequantize_q6_k,
-    dequantize_q8_0, How, Layer, Refusal, MOST_BATCH, MOST_BYTES, MOST_FLOATS, MOST_IN, MOST_OUT,
+    dequantize_iq4_nl, dequantize_q4_0, dequantize_q4_k, dequantize_q5_0, dequantize_q5_k,
+    dequantize_q6_k, dequantize_q8_0, How, Layer, Refusal, MOST_BATCH, MOST_BYTES, MOST_FLOATS,
+    MOST_IN, MOST_OUT,
 };
 use std::fmt::Debug;
 
@@ -145,8 +146,9 @@ fn sizes_are_the_same() {
 
 #[test]
 fn blocks_are_as_long_as_the_header_says() {
-    let decoders: [(&str, Decoder); 6] = [
+    let decoders: [(&str, Decoder); 7] = [
         ("Q4_0", dequantize_q4_0),
+        ("IQ4_NL", dequantize_iq4_nl),
         ("Q5_0", dequantize_q5_0),
         ("Q8_0", dequantize_q8_0),
         ("Q4_K", dequantize_q4_k),

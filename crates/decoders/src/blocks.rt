@@ -128,6 +128,14 @@ pub fn dequantize_q8_0(bytes: &[u8], out: &mut [f32]) -> Outcome
     dequantize(Format::Of32(Format32::Q80), bytes, out)
 }
 
+// IQ4_NL: 32 values to a block of 18 bytes.
+pub fn dequantize_iq4_nl(bytes: &[u8], out: &mut [f32]) -> Outcome
+    ensures { λ r. ⌜ (outcomeSays r, now (out .exit))
+        ≡ dequantizeSays (Format.Of32 Format32.Iq4Nl) (now (bytes .entry)) (now (out .entry)) ⌝ }
+{
+    dequantize(Format::Of32(Format32::Iq4Nl), bytes, out)
+}
+
 // Q4_K: 256 values to a block of 144 bytes.
 pub fn dequantize_q4_k(bytes: &[u8], out: &mut [f32]) -> Outcome
     ensures { λ r. ⌜ (outcomeSays r, now (out .exit))

@@ -4,6 +4,7 @@ mod decoded_row;
 mod q8_0;
 
 pub use blocks::decode_blocks;
+pub use blocks::dequantize_iq4_nl;
 pub use blocks::dequantize_q4_0;
 pub use blocks::dequantize_q4_0_ggml;
 pub use blocks::dequantize_q4_k;

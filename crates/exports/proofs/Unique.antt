@@ -21,12 +21,14 @@ use Rattle.exports.proofs.block_decoders.jambharrow_dequantize_q4_0.Rea
 use Rattle.exports.proofs.block_decoders.jambharrow_dequantize_q4_0_ggml.Reads as dequantize-q4-0-ggml
 use Rattle.exports.proofs.block_decoders.jambharrow_dequantize_q5_0.Reads as dequantize-q5-0
 use Rattle.exports.proofs.block_decoders.jambharrow_dequantize_q8_0.Reads as dequantize-q8-0
+use Rattle.exports.proofs.block_decoders.jambharrow_dequantize_iq4_nl.Reads as dequantize-iq4-nl
 use Rattle.exports.proofs.block_decoders.jambharrow_dequantize_q4_k.Reads as dequantize-q4-k
 use Rattle.exports.proofs.block_decoders.jambharrow_dequantize_q5_k.Reads as dequantize-q5-k
 use Rattle.exports.proofs.block_decoders.jambharrow_dequantize_q6_k.Reads as dequantize-q6-k
 use Rattle.exports.proofs.block_quantizers.jambharrow_quantize_q4_0.Reads as quantize-q4-0
 use Rattle.exports.proofs.block_quantizers.jambharrow_quantize_q4_0_ggml.Reads as quantize-q4-0-ggml
 use Rattle.exports.proofs.block_quantizers.jambharrow_quantize_q8_0.Reads as quantize-q8-0
+use Rattle.exports.proofs.block_quantizers.jambharrow_quantize_iq4_nl.Reads as quantize-iq4-nl
 use Rattle.exports.proofs.fixed_order_sums.jambharrow_canonical_chunk.Reads as canonical-chunk
 use Rattle.exports.proofs.fixed_order_sums.jambharrow_canonical_combine.Reads as canonical-combine
 use Rattle.exports.proofs.fixed_order_sums.jambharrow_canonical_dot_pub.Reads as canonical-dot-pub
@@ -47,6 +49,7 @@ use Rattle.exports.proofs.linear_layers.jambharrow_linear_q4_k_cpu.Read
 use Rattle.exports.proofs.linear_layers.jambharrow_linear_q6_k_cpu.Reads as linear-q6-k-cpu
 use Rattle.exports.proofs.linear_layers.jambharrow_linear_q4_0_cpu.Reads as linear-q4-0-cpu
 use Rattle.exports.proofs.linear_layers.jambharrow_linear_q4_0_ggml_cpu.Reads as linear-q4-0-ggml-cpu
+use Rattle.exports.proofs.linear_layers.jambharrow_linear_iq4_nl_cpu.Reads as linear-iq4-nl-cpu
 use Rattle.exports.proofs.stepped_layer.jambharrow_open.Reads as opening
 use Rattle.exports.proofs.stepped_layer.jambharrow_piece.Reads as piece
 use Rattle.exports.proofs.stepped_layer.jambharrow_run.Reads as running
@@ -71,6 +74,9 @@ dequantize-q5-0-once κs a x y s t h k = both h k
 pub dequantize-q8-0-once : OneCall dequantize-q8-0.Post (λ κs s. now (s .1 .0))
 dequantize-q8-0-once κs a x y s t h k = both h k
 
+pub dequantize-iq4-nl-once : OneCall dequantize-iq4-nl.Post (λ κs s. now (s .1 .0))
+dequantize-iq4-nl-once κs a x y s t h k = both h k
+
 pub dequantize-q4-k-once : OneCall dequantize-q4-k.Post (λ κs s. now (s .1 .0))
 dequantize-q4-k-once κs a x y s t h k = both h k
 
@@ -88,6 +94,9 @@ quantize-q4-0-ggml-once κs a x y s t h k = both h k
 
 pub quantize-q8-0-once : OneCall {M = List ℕ × List ℕ} quantize-q8-0.Post (λ κs s. (now (s .1 .0), now (s .1 .1 .0)))
 quantize-q8-0-once κs a x y s t h k = both h k
+
+pub quantize-iq4-nl-once : OneCall quantize-iq4-nl.Post (λ κs s. now (s .1 .1 .0))
+quantize-iq4-nl-once κs a x y s t h k = both h k
 
 pub q4-0-to-ggml-once : OneCall q4-0-to-ggml.Post (λ κs s. now (s .1 .0))
 q4-0-to-ggml-once κs a x y s t h k = both h k
@@ -174,6 +183,9 @@ linear-q4-0-cpu-once κs a x y s t h k = both h k
 
 pub linear-q4-0-ggml-cpu-once : OneCall {M = List Float × List Float} linear-q4-0-ggml-cpu.Post (λ κs s. (now (s .1 .1 .0), now (s .1 .1 .1 .0)))
 linear-q4-0-ggml-cpu-once κs a x y s t h k = both h k
+
+pub linear-iq4-nl-cpu-once : OneCall {M = List Float × List Float} linear-iq4-nl-cpu.Post (λ κs s. (now (s .1 .1 .0), now (s .1 .1 .1 .0)))
+linear-iq4-nl-cpu-once κs a x y s t h k = both h k
 
 -- the number, and the slots and marks that are left
 pub open-once : OneCall opening.Post (λ κs s. memory (now (s .1 .1 .1 .0)) (now (s .1 .1 .1 .1 .0)))

@@ -43,6 +43,15 @@ pub extern "C" fn jambharrow_dequantize_q8_0(bytes: &[u8], out: &mut [f32]) -> u
     number_of(decoders::dequantize_q8_0(bytes, out))
 }
 
+// `decoders::dequantize_iq4_nl`, for C.
+#[no_mangle]
+pub extern "C" fn jambharrow_dequantize_iq4_nl(bytes: &[u8], out: &mut [f32]) -> u32
+    ensures { λ r. ⌜ (r, now (out .exit))
+        ≡ numbered (dequantizeSays (Format.Of32 Format32.Iq4Nl) (now (bytes .entry)) (now (out .entry))) ⌝ }
+{
+    number_of(decoders::dequantize_iq4_nl(bytes, out))
+}
+
 // `decoders::dequantize_q4_k`, for C.
 #[no_mangle]
 pub extern "C" fn jambharrow_dequantize_q4_k(bytes: &[u8], out: &mut [f32]) -> u32

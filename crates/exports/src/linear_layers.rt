@@ -272,3 +272,21 @@ pub extern "C" fn jambharrow_linear_q4_0_ggml_cpu(
 {
     number_of(layers_cpu::linear_q4_0_ggml_cpu(x, w, y, scratch, batch, in_feat, out_feat))
 }
+
+// `layers_cpu::linear_iq4_nl_cpu`, for C.
+#[no_mangle]
+pub extern "C" fn jambharrow_linear_iq4_nl_cpu(
+    x: &[f32],
+    w: &[u8],
+    y: &mut [f32],
+    scratch: &mut [f32],
+    batch: usize,
+    in_feat: usize,
+    out_feat: usize,
+) -> u32
+    ensures { λ r. ⌜ (r, (now (y .exit), now (scratch .exit)))
+        ≡ numbered (cpuSays (Format.Of32 Format32.Iq4Nl) (shape batch «in_feat» «out_feat») (now (x .entry))
+        (now (w .entry)) (now (y .entry)) (now (scratch .entry))) ⌝ }
+{
+    number_of(layers_cpu::linear_iq4_nl_cpu(x, w, y, scratch, batch, in_feat, out_feat))
+}

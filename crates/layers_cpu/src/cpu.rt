@@ -179,3 +179,25 @@ pub fn linear_q4_0_ggml_cpu(
     };
     cpu_layer(Format::Of32(Format32::Q40Ggml), x, w, y, scratch, s)
 }
+
+// The same in IQ4_NL.
+pub fn linear_iq4_nl_cpu(
+    x: &[f32],
+    w: &[u8],
+    y: &mut [f32],
+    scratch: &mut [f32],
+    batch: usize,
+    in_feat: usize,
+    out_feat: usize,
+) -> Outcome
+    ensures { λ r. ⌜ (outcomeSays r, (now (y .exit), now (scratch .exit)))
+        ≡ cpuSays (Format.Of32 Format32.Iq4Nl) (shape batch «in_feat» «out_feat») (now (x .entry)) (now (w .entry))
+        (now (y .entry)) (now (scratch .entry)) ⌝ }
+{
+    let s = Shape {
+        batch,
+        in_feat,
+        out_feat,
+    };
+    cpu_layer(Format::Of32(Format32::Iq4Nl), x, w, y, scratch, s)
+}

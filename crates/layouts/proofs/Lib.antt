@@ -4,6 +4,7 @@ pub mod Sizes
 pub mod Short
 pub mod Two
 pub mod Quants
+pub mod Rising
 pub mod Written
 pub mod Rows
 pub mod Scales

@@ -7,9 +7,9 @@ use lib.Arith.{digits-div}
 use lib.IntN.{pos, _-ℤ_}
 use lib.ListN.{getD}
 use Rattle.numbers.specs.Fields.{le32}
-use Rattle.layouts.specs.Of32.{nibble, nibbleBeside, nibbleApart, quant32}
+use Rattle.layouts.specs.Of32.{nibble, nibbleBeside, nibbleApart, valueIq4Nl, quant32}
 use Rattle.layouts.specs.K.{nibblePaired, quantQ4K, quantQ5K, quantQ6K}
-use Rattle.layouts.specs.declared.format.Format32.the-variants.{Q40, Q40Ggml, Q50}
+use Rattle.layouts.specs.declared.format.Format32.the-variants.{Q40, Q40Ggml, Q50, Iq4Nl}
 
 pub nibble-small : (b k : ℕ) → b < 256 → nibble b k ≤ 15
 nibble-small b zero h = omega arith
@@ -54,6 +54,11 @@ module _ (bs : List ℕ) (at k : ℕ) (h : k < 16) where
 pub q40-ggml-at : (bs : List ℕ) (i n : ℕ) → nibbleApart bs 2 i ≡ n → quant32 Q40Ggml bs i ≡ pos n -ℤ pos 8
 unfolding quant32
 q40-ggml-at bs i n e = rw e
+
+-- IQ4_NL: the value that the nibble at place i picks, which is n
+pub iq4-nl-at : (bs : List ℕ) (i n : ℕ) → nibbleApart bs 2 i ≡ n → quant32 Iq4Nl bs i ≡ valueIq4Nl n
+unfolding quant32
+iq4-nl-at bs i n e = rw e
 
 -- Q5_0: the nibble at place i, which is n, with its high bit above it
 pub q50-at : (bs : List ℕ) (i n : ℕ) → nibbleApart bs 6 i ≡ n → quant32 Q50 bs i ≡ pos (n + 16 * (le32 bs 2 / 2 ^ i % 2)) -ℤ pos 16

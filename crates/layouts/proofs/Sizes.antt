@@ -9,7 +9,7 @@ use lib.ListN.{take, drop}
 use Rattle.layouts.specs.Formats.{bytes32, bytesK, blockBytes, blockValues}
 use Rattle.layouts.specs.Weights.{valueIn, weightAt}
 use Rattle.layouts.specs.declared.format.Format32.{Format32}
-use Rattle.layouts.specs.declared.format.Format32.the-variants.{Q40, Q40Ggml, Q50, Q80}
+use Rattle.layouts.specs.declared.format.Format32.the-variants.{Q40, Q40Ggml, Q50, Q80, Iq4Nl}
 use Rattle.layouts.specs.declared.format.FormatK.{FormatK}
 use Rattle.layouts.specs.declared.format.FormatK.the-variants.{Q4K, Q5K, Q6K}
 use Rattle.layouts.specs.declared.format.Format.{Format}
@@ -20,6 +20,7 @@ least-32 Q40 = (lit≤ tt, lit≤ tt)
 least-32 Q40Ggml = (lit≤ tt, lit≤ tt)
 least-32 Q50 = (lit≤ tt, lit≤ tt)
 least-32 Q80 = (lit≤ tt, lit≤ tt)
+least-32 Iq4Nl = (lit≤ tt, lit≤ tt)
 
 pub sizes : (f : Format) → (18 ≤ blockBytes f) × (blockBytes f ≤ 210) × (32 ≤ blockValues f) × (blockValues f ≤ 256)
 sizes (Of32 f) = let h = least-32 f in (h .0, omega arith, lit≤ tt, lit≤ tt)

@@ -3,7 +3,7 @@ use Prim.Native.Nat.{ℕ}
 use mathlib.Core.Bool.{Bool, true, false, cond}
 use lib.Dec.{eqb}
 use Rattle.layouts.specs.declared.format.Format32.{Format32}
-use Rattle.layouts.specs.declared.format.Format32.the-variants.{Q40, Q40Ggml, Q50, Q80}
+use Rattle.layouts.specs.declared.format.Format32.the-variants.{Q40, Q40Ggml, Q50, Q80, Iq4Nl}
 use Rattle.layouts.specs.declared.format.FormatK.{FormatK}
 use Rattle.layouts.specs.declared.format.FormatK.the-variants.{Q4K, Q5K, Q6K}
 use Rattle.layouts.specs.declared.format.Named.{Named}
@@ -11,12 +11,13 @@ use Rattle.layouts.specs.declared.format.Named.the-variants.{Known, Unkn
 use Rattle.layouts.specs.declared.format.Format.{Format}
 use Rattle.layouts.specs.declared.format.Format.the-variants.{Of32, OfK}
 
--- Q4_0, in either order: 18 bytes; Q5_0: 22 bytes; Q8_0: 34 bytes
+-- Q4_0, in either order: 18 bytes; Q5_0: 22 bytes; Q8_0: 34 bytes; IQ4_NL: 18 bytes
 abbrev pub bytes32 : Format32 → ℕ
 bytes32 Q40 = 18
 bytes32 Q40Ggml = 18
 bytes32 Q50 = 22
 bytes32 Q80 = 34
+bytes32 Iq4Nl = 18
 
 -- Q4_K: 144 bytes; Q5_K: 176 bytes; Q6_K: 210 bytes
 abbrev pub bytesK : FormatK → ℕ

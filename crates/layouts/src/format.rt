@@ -9,6 +9,7 @@ pub enum Format32 {
     Q40Ggml,
     Q50,
     Q80,
+    Iq4Nl,
 }
 
 // The K formats: 256 values to a block, in 16 runs of 16.
@@ -31,6 +32,7 @@ fn bytes_32(format: Format32) -> usize
         Format32::Q40Ggml => 18,
         Format32::Q50 => 22,
         Format32::Q80 => 34,
+        Format32::Iq4Nl => 18,
     }
 }
 

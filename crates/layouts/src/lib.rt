@@ -15,3 +15,4 @@ pub use format::block_values;
 pub use format::format_named;
 pub use of32::less;
 pub use of32::quants_32;
+pub use of32::value_iq4_nl;

@@ -6,7 +6,7 @@ ghost use lib.IntN.{pos, _-ℤ_};
 ghost use lib.ListN.{length};
 ghost use Rattle.memory.specs.Lists.{table};
 ghost use Rattle.layouts.specs.Formats.{bytes32};
-ghost use Rattle.layouts.specs.Of32.{quant32};
+ghost use Rattle.layouts.specs.Of32.{valueIq4Nl, quant32};
 
 // n less k.
 pub fn less(n: u8, k: u8) -> i8
@@ -80,6 +80,48 @@ fn quants_q8_0(block: &[u8]) -> [i8; 32]
     q
 }
 
+// The sixteen values of IQ4_NL. They rise.
+const VALUES_IQ4_NL: [i8; 16] = [
+    -127,
+    -104,
+    -83,
+    -65,
+    -49,
+    -35,
+    -22,
+    -10,
+    1,
+    13,
+    25,
+    38,
+    53,
+    69,
+    89,
+    113,
+];
+
+// The value that a nibble of IQ4_NL picks.
+pub fn value_iq4_nl(nibble: u8) -> i8
+    requires { ⌜ nibble < 16 ⌝ }
+    ensures { λ r. ⌜ r ≡ valueIq4Nl nibble ⌝ }
+{
+    VALUES_IQ4_NL[nibble as usize]
+}
+
+// IQ4_NL's whole numbers: byte k's nibbles pick those at places k and k + 16.
+fn quants_iq4_nl(block: &[u8]) -> [i8; 32]
+    requires { ⌜ length (now block) ≡ 18 ⌝ }
+    ensures { λ r. ⌜ r ≡ table (quant32 Format32.Iq4Nl (now (block .entry))) 32 ⌝ }
+{
+    let mut q = [0i8; 32];
+    for k in 0..16usize {
+        let b = block[2 + k];
+        q[k] = value_iq4_nl(b % 16);
+        q[k + 16] = value_iq4_nl(b / 16);
+    }
+    q
+}
+
 // A block's 32 whole numbers.
 pub fn quants_32(format: Format32, block: &[u8]) -> [i8; 32]
     requires { ⌜ length (now block) ≡ bytes32 format ⌝ }
@@ -90,5 +132,6 @@ pub fn quants_32(format: Format32, block: &[u8]) -> [i8; 32]
         Format32::Q40Ggml => quants_q4_0_ggml(block),
         Format32::Q50 => quants_q5_0(block),
         Format32::Q80 => quants_q8_0(block),
+        Format32::Iq4Nl => quants_iq4_nl(block),
     }
 }

@@ -1,6 +1,6 @@
 -- A test that holds at every place, or not. Assumes nothing.
 use mathlib.Core.Path.{_≡_, refl, sym, ap, _∙_}
-use mathlib.Core.Bool.{Bool, true, false, cond}
+use mathlib.Core.Bool.{Bool, true, false, cond, false≢true}
 use mathlib.Core.Logic.{⊎-elim}
 use Prim.Native.Nat.{ℕ, zero, suc, _+_, _<_}
 use native.Mathlib.Nat.{not-suc-le-zero, eq-or-lt-of-le, le-of-suc-le-suc}
@@ -33,3 +33,11 @@ every-not p (suc k) j h e =
     (λ g. let e′ : p k ≡ false = ap p (sym g) ∙ e in rw e′ (cond-false (every p k)))
     (λ g. rw (every-not p k j g e))
     (eq-or-lt-of-le (le-of-suc-le-suc h))
+
+-- at each of the places at which it holds at every one
+pub every-at : (p : ℕ → Bool) (k j : ℕ) → every p k ≡ true → j < k → p j ≡ true
+every-at p k j e h = told (p j) refl
+  where
+    told : (t : Bool) → p j ≡ t → p j ≡ true
+    told true g = g
+    told false g = absurd (false≢true (sym (every-not p k j h g) ∙ e))

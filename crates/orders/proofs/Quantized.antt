@@ -14,12 +14,13 @@ use Rattle.memory.specs.Lists.{table, filled, part}
 use Rattle.memory.proofs.Filled.{length-table, getD-table, part-at, part-length}
 use Rattle.numbers.specs.Fields.{byteOf}
 use Rattle.numbers.specs.Steps.{truncated}
+use Rattle.halves.specs.declared.how.Narrowed.{Narrowed}
 use Rattle.readings.specs.Readings.{quantQ40}
 use Rattle.readings.proofs.Held.{held-up-to}
 use Rattle.layouts.specs.Formats.{bytes32}
 use Rattle.layouts.proofs.Quants.{beside-low, beside-high, apart-low, apart-high}
-use Rattle.quantizers.specs.Blocks.{formatOf, scaleOf, scaledReading, quantOf, quantByte, byteAt}
-use Rattle.quantizers.specs.Lost.{scaleFares, lostIn, lostBy}
+use Rattle.quantizers.specs.Blocks.{formatOf, scaleOf, storedScale, scaledReading, quantOf, quantByte, byteAt}
+use Rattle.quantizers.specs.Lost.{counted, scaleFares, lostIn, lostBy}
 use Rattle.quantizers.specs.Says.{packedAt, bytesFor, quantizeRefusal, quantizeSays}
 use Rattle.quantizers.specs.declared.lost.Lost.{Lost}
 use Rattle.quantizers.specs.declared.target.Target.{Target}
@@ -87,8 +88,8 @@ module _ (xs : List Float) where
   moved-is ToGgml k h = rw (nibble-read ToGgml k (omega arith), nibble-read ToGgml (k + 16) (omega arith), same-nibble k, same-nibble (k + 16))
   moved-is FromGgml k h = rw (nibble-read FromGgml (2 * k) (omega arith), nibble-read FromGgml (2 * k + 1) (omega arith))
 
-  pub same-scale : (d : Direction) → scaleOf (targetRead d) xs ≡ scaleOf (targetWritten d) xs
-  unfolding scaleOf
+  pub same-scale : (d : Direction) → storedScale (targetRead d) (scaleOf (targetRead d) xs) ≡ storedScale (targetWritten d) (scaleOf (targetWritten d) xs)
+  unfolding scaleOf storedScale
   same-scale ToGgml = refl
   same-scale FromGgml = refl
 
@@ -162,7 +163,9 @@ module _ (xs : List Float) where
 same-lost : (d : Direction) (xs : List Float) (n : ℕ) → lostIn (targetRead d) xs n ≡ lostIn (targetWritten d) xs n
 unfolding lostIn scaleFares
 same-lost d xs zero = refl
-same-lost d xs (suc n) = rw (same-lost d xs n, same-scale (part xs (n * 32) 32) d)
+same-lost d xs (suc n) =
+    let ys = part xs (n * 32) 32 in
+    ap (λ (l : Lost). counted l (scaleFares (targetRead d) ys)) (same-lost d xs n) ∙ ap (λ (s : Narrowed). counted (lostIn (targetWritten d) xs n) (s .how)) (same-scale ys d)
 
 -- a quantizer whose checks pass packs
 packs : (t : Target) (xs : List Float) (room : List ℕ) → bytes32 (formatOf t) ≡ 18 → quantizeRefusal t (length xs) (length room) ≡ done

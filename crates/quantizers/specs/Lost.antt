@@ -2,13 +2,12 @@
 use Prim.Native.Nat.{ℕ, zero, suc, _+_, _*_, _/_}
 use mathlib.Core.List.{List}
 use lib.ListN.{length}
-use lib.Ieee.{Float, binary32, toBits}
+use lib.Ieee.{Float}
 use Rattle.refusals.specs.Said.{Said, value, refused}
 use Rattle.memory.specs.Lists.{part}
-use Rattle.halves.specs.How.{howNarrowed}
 use Rattle.halves.specs.declared.how.How.{How}
 use Rattle.halves.specs.declared.how.How.the-variants.{Exact, Cut, Flushed, SentToInfinity}
-use Rattle.quantizers.specs.Blocks.{scaleOf}
+use Rattle.quantizers.specs.Blocks.{scaleOf, storedScale}
 use Rattle.quantizers.specs.declared.target.Target.{Target}
 use Rattle.quantizers.specs.declared.lost.Lost.{Lost}
 use Rattle.quantizers.specs.declared.lost.Packing.{Packing}
@@ -27,7 +26,7 @@ counted l SentToInfinity = lost (l .flushed) (l .infinite + 1)
 
 -- how the scale of a block of these 32 readings fares when it is stored
 unfoldable pub scaleFares : Target → List Float → How
-scaleFares t xs = howNarrowed (toBits binary32 (scaleOf t xs))
+scaleFares t xs = storedScale t (scaleOf t xs) .how
 
 -- what the scales of the first n blocks of the readings lost
 unfoldable pub lostIn : Target → List Float → ℕ → Lost

@@ -14,6 +14,7 @@ use Rattle.layouts.specs.Formats.{bytes32}
 use Rattle.quantizers.specs.Blocks.{formatOf, byteAt}
 use Rattle.quantizers.specs.Lost.{lostBy}
 use Rattle.quantizers.specs.declared.target.Target.{Target}
+use Rattle.quantizers.specs.declared.target.Target.the-variants.{Iq4Nl}
 use Rattle.quantizers.specs.declared.lost.Lost.{Lost}
 
 -- byte i of the quantised readings: byte i mod size of block i / size, which is made of the 32 readings from 32 (i /
@@ -38,3 +39,9 @@ unfoldable pub quantizeSays : Target → List Float → List ℕ → Said Lost �
 quantizeSays t xs out =
     carriedOut (orElse (quantizeRefusal t (length xs) (length out)) (value (lostBy t xs)))
     (filled (packedAt t xs) out (bytesFor t (length xs))) out
+
+-- the same by a scale that is given, a binary16: no scale is picked, and none is lost
+unfoldable pub quantizeGivenSays : (scale : ℕ) → List Float → List ℕ → Said (Unit {0}) × List ℕ
+quantizeGivenSays scale xs out =
+    carriedOut (quantizeRefusal (Iq4Nl scale) (length xs) (length out))
+    (filled (packedAt (Iq4Nl scale) xs) out (bytesFor (Iq4Nl scale) (length xs))) out

@@ -8,13 +8,14 @@ use crate::target::format_of;
 use layouts::Format;
 use layouts::block_bytes;
 use refusals::Check;
+use refusals::Outcome;
 ghost use mathlib.Core.Path.{_≡_};
 ghost use Prim.Native.Nat.{_≤_};
 ghost use lib.ListN.{length};
-ghost use Rattle.refusals.specs.Said.{checkSays};
+ghost use Rattle.refusals.specs.Said.{checkSays, outcomeSays};
 ghost use Rattle.memory.specs.Lists.{filled};
 ghost use Rattle.quantizers.specs.Lost.{lostBy, packingSays};
-ghost use Rattle.quantizers.specs.Says.{packedAt, bytesFor, quantizeRefusal, quantizeSays};
+ghost use Rattle.quantizers.specs.Says.{packedAt, bytesFor, quantizeRefusal, quantizeSays, quantizeGivenSays};
 
 // The bytes of the whole blocks of 32 readings, at the front of the output, and what their scales lost.
 fn quantize_blocks(target: Target, x: &[f32], out: &mut [u8]) -> Lost
@@ -89,4 +90,16 @@ pub fn quantize_q8_0(x: &[f32], out: &mut [u8]) -> Packing
     ensures { λ r. ⌜ (packingSays r, now (out .exit)) ≡ quantizeSays Target.Q80 (now (x .entry)) (now (out .entry)) ⌝ }
 {
     quantize(Target::Q80, x, out)
+}
+
+// The readings as IQ4_NL blocks by one scale, a binary16, which every block stores as it is. Refuses 6, 2 and 5, in this
+// order.
+pub fn quantize_iq4_nl(x: &[f32], scale: u16, out: &mut [u8]) -> Outcome
+    ensures { λ r. ⌜ (outcomeSays r, now (out .exit)) ≡ quantizeGivenSays scale (now (x .entry)) (now (out .entry)) ⌝ }
+{
+    let packing = quantize(Target::Iq4Nl(scale), x, out);
+    match packing {
+        Packing::Packed(_) => Outcome::Done,
+        Packing::Refused(refusal) => Outcome::Refused(refusal),
+    }
 }

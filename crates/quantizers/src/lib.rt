@@ -4,6 +4,7 @@ mod blocks;
 mod lost;
 mod target;
 
+pub use blocks::quantize_iq4_nl;
 pub use blocks::quantize_q4_0;
 pub use blocks::quantize_q4_0_ggml;
 pub use blocks::quantize_q8_0;

@@ -34,6 +34,9 @@ pub fn judge(tag: u8, payload: &[u8]) -> Finding {
         37 => judge_block_quantizer(tag, payload),
         38 => judge_layer(tag, payload),
         39..=40 => judge_block_converter(tag, payload),
+        41 => judge_block_decoder(tag, payload),
+        42 => judge_block_quantizer(tag, payload),
+        43 => judge_layer(tag, payload),
         NAME => {
             print_name(payload);
             Finding::Name

@@ -27,6 +27,7 @@ enum Layer {
     Q6kCpu,
     Q40Cpu,
     Q40GgmlCpu,
+    Iq4NlCpu,
 }
 
 // The `_cpu` layers alone use scratch.
@@ -55,6 +56,7 @@ fn outcome(
         Layer::Q6kCpu => layers_cpu::linear_q6_k_cpu(x, w, y, scratch, batch, n, outs),
         Layer::Q40Cpu => layers_cpu::linear_q4_0_cpu(x, w, y, scratch, batch, n, outs),
         Layer::Q40GgmlCpu => layers_cpu::linear_q4_0_ggml_cpu(x, w, y, scratch, batch, n, outs),
+        Layer::Iq4NlCpu => layers_cpu::linear_iq4_nl_cpu(x, w, y, scratch, batch, n, outs),
     }
 }
 
@@ -143,6 +145,7 @@ pub fn judge_layer(tag: u8, payload: &[u8]) -> Finding {
         34 => judge(Layer::Q5kInteger, payload),
         35 => judge(Layer::Q5kIntegerRs, payload),
         38 => judge(Layer::Q40GgmlCpu, payload),
+        43 => judge(Layer::Iq4NlCpu, payload),
         _ => Finding::Unknown,
     }
 }

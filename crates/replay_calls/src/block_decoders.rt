@@ -15,6 +15,7 @@ enum Decoder {
     Q40Ggml,
     Q50,
     Q80,
+    Iq4Nl,
     Q4k,
     Q5k,
     Q6k,
@@ -26,6 +27,7 @@ fn dequantize(decoder: Decoder, bytes: &[u8], out: &mut [f32]) -> Outcome {
         Decoder::Q40Ggml => decoders::dequantize_q4_0_ggml(bytes, out),
         Decoder::Q50 => decoders::dequantize_q5_0(bytes, out),
         Decoder::Q80 => decoders::dequantize_q8_0(bytes, out),
+        Decoder::Iq4Nl => decoders::dequantize_iq4_nl(bytes, out),
         Decoder::Q4k => decoders::dequantize_q4_k(bytes, out),
         Decoder::Q5k => decoders::dequantize_q5_k(bytes, out),
         Decoder::Q6k => decoders::dequantize_q6_k(bytes, out),
@@ -78,6 +80,7 @@ pub fn judge_block_decoder(tag: u8, payload: &[u8]) -> Finding {
         6 => judge_dequantize(Decoder::Q6k, payload),
         29 => judge_dequantize(Decoder::Q5k, payload),
         36 => judge_dequantize(Decoder::Q40Ggml, payload),
+        41 => judge_dequantize(Decoder::Iq4Nl, payload),
         _ => Finding::Unknown,
     }
 }

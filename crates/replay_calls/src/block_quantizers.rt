@@ -1,26 +1,33 @@
 // The block quantizers. A payload is how many places the output has and how many readings there are, the readings, the
 // number that says no, 0 where there is none, how many blocks' scales were flushed and how many were sent to infinity, 0
 // where there is a number, and what then stands in the output.
+use crate::given_scales::judge_given;
 use quantizers::Lost;
 use quantizers::Packing;
-use quantizers::Target;
 use replay_answers::Finding;
 use replay_answers::read_floats;
 use replay_answers::same_bytes;
 use replay_answers::u32_at;
 
 // The places of an output at most: two blocks of Q8_0, and one place more.
-const ROOM: usize = 69;
+pub(crate) const ROOM: usize = 69;
 // What stands in each of them before the call.
 pub(crate) const STOOD: u8 = 0xEE;
 // The readings at most: two blocks, and one reading more.
-const READINGS: usize = 65;
+pub(crate) const READINGS: usize = 65;
 
-fn quantize(target: Target, data: &[f32], out: &mut [u8]) -> Packing {
-    match target {
-        Target::Q40 => quantizers::quantize_q4_0(data, out),
-        Target::Q40Ggml => quantizers::quantize_q4_0_ggml(data, out),
-        Target::Q80 => quantizers::quantize_q8_0(data, out),
+// The quantizers that pick a scale for each block.
+enum Quantizer {
+    Q40,
+    Q40Ggml,
+    Q80,
+}
+
+fn quantize(quantizer: Quantizer, data: &[f32], out: &mut [u8]) -> Packing {
+    match quantizer {
+        Quantizer::Q40 => quantizers::quantize_q4_0(data, out),
+        Quantizer::Q40Ggml => quantizers::quantize_q4_0_ggml(data, out),
+        Quantizer::Q80 => quantizers::quantize_q8_0(data, out),
     }
 }
 
@@ -36,7 +43,7 @@ fn says(ours: Packing, number: u32, lost: Lost) -> bool {
 
 // What ours says and leaves in its output on readings whose bits stand in these bytes, read into `data`, beside theirs.
 fn judge_output(
-    target: Target,
+    quantizer: Quantizer,
     bytes: &[u8],
     data: &mut [f32],
     out: &mut [u8],
@@ -45,7 +52,7 @@ fn judge_output(
     left: &[u8],
 ) -> Finding {
     read_floats(bytes, data);
-    if !says(quantize(target, data, out), number, lost) {
+    if !says(quantize(quantizer, data, out), number, lost) {
         return Finding::Differs;
     }
     Finding::of_same(same_bytes(left, out))
@@ -59,7 +66,7 @@ fn read_lost(counts: &[u8]) -> Lost {
     }
 }
 
-fn judge_quantize(target: Target, payload: &[u8]) -> Finding {
+fn judge_quantize(quantizer: Quantizer, payload: &[u8]) -> Finding {
     let room = u32_at(payload, 0) as usize;
     let count = u32_at(payload, 4) as usize;
     if room > ROOM {
@@ -78,7 +85,7 @@ fn judge_quantize(target: Target, payload: &[u8]) -> Finding {
     let mut data = [0.0f32; READINGS];
     let mut out = [STOOD; ROOM];
     judge_output(
-        target,
+        quantizer,
         &payload[8..end],
         &mut data[..count],
         &mut out[..room],
@@ -91,9 +98,10 @@ fn judge_quantize(target: Target, payload: &[u8]) -> Finding {
 // A stored answer of the call that has this tag.
 pub fn judge_block_quantizer(tag: u8, payload: &[u8]) -> Finding {
     match tag {
-        11 => judge_quantize(Target::Q40, payload),
-        12 => judge_quantize(Target::Q80, payload),
-        37 => judge_quantize(Target::Q40Ggml, payload),
+        11 => judge_quantize(Quantizer::Q40, payload),
+        12 => judge_quantize(Quantizer::Q80, payload),
+        37 => judge_quantize(Quantizer::Q40Ggml, payload),
+        42 => judge_given(payload),
         _ => Finding::Unknown,
     }
 }

@@ -6,6 +6,7 @@ mod block_decoders;
 mod block_quantizers;
 mod blocks;
 mod fixed_order_sums;
+mod given_scales;
 mod row_dots;
 
 pub use activation_blocks::judge_activation_block;

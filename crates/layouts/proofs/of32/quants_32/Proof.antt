@@ -20,6 +20,9 @@ quants-q5-0-requires c κs = c .before .before .before .pre ∙ ap bytes32 (c .e
 quants-q8-0-requires : tie.Need-quants-q8-0-requires
 quants-q8-0-requires c κs = c .before .before .before .pre ∙ ap bytes32 (c .enum-told4 .given .1)
 
+quants-iq4-nl-requires : tie.Need-quants-iq4-nl-requires
+quants-iq4-nl-requires c κs = c .before .before .before .pre ∙ ap bytes32 (c .enum-told5 .given .1)
+
 returns : tie.Need-returns
 returns c = c .quants-q4-0 .ensures ∙ ap (λ (f : Format32). table (quant32 f (c .before .before .before .before .args .block .now)) 32) (sym (c .before .enum-told .given .1))
 
@@ -31,6 +34,9 @@ returns-3 c = c .quants-q5-0 .ensures ∙ ap (λ (f : Format32). table (quant32 
 
 returns-4 : tie.Need-returns-4
 returns-4 c = c .quants-q8-0 .ensures ∙ ap (λ (f : Format32). table (quant32 f (c .before .before .before .before .args .block .now)) 32) (sym (c .before .enum-told4 .given .1))
+
+returns-5 : tie.Need-returns-5
+returns-5 c = c .quants-iq4-nl .ensures ∙ ap (λ (f : Format32). table (quant32 f (c .before .before .before .before .args .block .now)) 32) (sym (c .before .enum-told5 .given .1))
 
 pub quants-32-spec : {M : Type 1} → statement M
 quants-32-spec =
@@ -44,7 +50,10 @@ quants-32-spec =
     quants-q5-0-requires
     (λ c. search needs)
     quants-q8-0-requires
+    (λ c. search needs)
+    quants-iq4-nl-requires
     returns
     returns-2
     returns-3
-    returns-4)
+    returns-4
+    returns-5)

@@ -3,12 +3,11 @@ use mathlib.Core.Path.{_≡_, refl, sym, ap, _∙_}
 use Prim.Native.Nat.{ℕ, _+_, _-_, _/_, _%_}
 use mathlib.Core.List.{List, _++_}
 use lib.ListN.{length, set, take, drop, length-set}
-use lib.Ieee.{Float, binary32, toBits}
+use lib.Ieee.{Float}
 use Rattle.memory.specs.Lists.{table}
 use Rattle.memory.proofs.Filled.{part-length}
 use native.Mathlib.Omega.{arith}
 use borrow.Author.Needs.{needs}
-use Rattle.halves.specs.How.{howNarrowed}
 use Rattle.halves.specs.declared.how.Narrowed.{Narrowed}
 use Rattle.layouts.specs.Formats.{bytes32}
 use Rattle.layouts.proofs.Sizes.{least-32}
@@ -16,7 +15,7 @@ use Rattle.layouts.proofs.Written.{block-long}
 use Rattle.quantizers.specs.Blocks.{formatOf, storedScale, byteAt}
 use Rattle.quantizers.specs.Lost.{scaleFares}
 use Rattle.quantizers.specs.declared.target.Target.{Target}
-use Rattle.quantizers.specs.declared.target.Target.the-variants.{Q40, Q40Ggml, Q80}
+use Rattle.quantizers.specs.declared.target.Target.the-variants.{Q40, Q40Ggml, Q80, Iq4Nl}
 use Rattle.quantizers.proofs.Bytes.{written, block-left}
 use Rattle.quantizers.proofs.block.quantize_block.Statement.{statement}
 use Rattle.quantizers.proofs.block.quantize_block.Tie as tie
@@ -34,13 +33,12 @@ told-long : (m : tie.After-stored-scale) (u : Target) → start m .args .target 
 told-long m u e = simp length-set (start m .pre .1 ∙ ap (λ (v : Target). bytes32 (formatOf v)) e)
 
 -- the stored scale's bits, and how it fares
-half-is : (m : tie.After-stored-scale) → m .stored-scale .result .bits ≡ storedScale (m .before .before .scale-of .result)
-unfolding storedScale
+half-is : (m : tie.After-stored-scale) → m .stored-scale .result .bits ≡ storedScale (start m .args .target) (m .before .before .scale-of .result) .bits
 half-is m = ap (λ (n : Narrowed). n .bits) (m .stored-scale .ensures)
 
 fares : (m : tie.After-stored-scale) → m .stored-scale .result .how ≡ scaleFares (start m .args .target) (start m .args .x .now)
 unfolding scaleFares
-fares m = ap (λ (n : Narrowed). n .how) (m .stored-scale .ensures) ∙ ap (λ (d : Float). howNarrowed (toBits binary32 d)) (m .before .before .scale-of .ensures)
+fares m = ap (λ (n : Narrowed). n .how) (m .stored-scale .ensures) ∙ ap (λ (d : Float). storedScale (start m .args .target) d .how) (m .before .before .scale-of .ensures)
 
 -- the output with the quants of the target u behind the scale: a block of that target
 behind : (m : tie.After-stored-scale) (u : Target) (size k : ℕ) (ys : List ℕ) → start m .args .target ≡ u → bytes32 (formatOf u) ≡ size → size ≡ 2 + k
@@ -106,6 +104,14 @@ write-quants-q8-0-requires c κs =
     let m = c .before .before .before in
     (start m .pre .0, part-length (scaled m) 2 32 34 refl (omega (arith, told-long m Q80 (c .before .enum-told3 .given .1))))
 
+part-write-quants-iq4-nl-end : tie.Need-part-write-quants-iq4-nl-end
+part-write-quants-iq4-nl-end c = omega (arith, told-long (c .before .before) (Iq4Nl _) (c .enum-told4 .given .1))
+
+write-quants-iq4-nl-requires : tie.Need-write-quants-iq4-nl-requires
+write-quants-iq4-nl-requires c κs =
+    let m = c .before .before .before in
+    (start m .pre .0, part-length (scaled m) 2 16 18 refl (omega (arith, told-long m (Iq4Nl _) (c .before .enum-told4 .given .1))))
+
 same-length : tie.Need-same-length
 same-length c = kept-long (c .before .before .before .before .before .before) Q40 18 16 _ (c .before .before .before .before .enum-told .given .1) refl refl (c .before .before .write-quants-q4-0 .ensures)
 
@@ -129,6 +135,14 @@ returns-3 : tie.Need-returns-3
 returns-3 c =
     let m = c .before .before .before .before .before .before in
     (fares m, behind m Q80 34 32 _ (c .before .before .before .before .enum-told3 .given .1) refl refl (c .before .before .write-quants-q8-0 .ensures))
+
+same-length-4 : tie.Need-same-length-4
+same-length-4 c = kept-long (c .before .before .before .before .before .before) (Iq4Nl _) 18 16 _ (c .before .before .before .before .enum-told4 .given .1) refl refl (c .before .before .write-quants-iq4-nl .ensures)
+
+returns-4 : tie.Need-returns-4
+returns-4 c =
+    let m = c .before .before .before .before .before .before in
+    (fares m, behind m (Iq4Nl _) 18 16 _ (c .before .before .before .before .enum-told4 .given .1) refl refl (c .before .before .write-quants-iq4-nl .ensures))
 
 pub quantize-block-spec : {M : Type 1} → statement M
 quantize-block-spec =
@@ -156,9 +170,16 @@ quantize-block-spec =
     (λ c. omega arith)
     part-write-quants-q8-0-end
     write-quants-q8-0-requires
+    (λ c. search needs)
+    (λ c. omega arith)
+    (λ c. omega arith)
+    part-write-quants-iq4-nl-end
+    write-quants-iq4-nl-requires
     same-length
     returns
     same-length-2
     returns-2
     same-length-3
-    returns-3)
+    returns-3
+    same-length-4
+    returns-4)

@@ -1,0 +1,3 @@
+-- What the proofs of `nearest` share, and what the nearest value is.
+pub mod Searched
+pub mod Meaning
