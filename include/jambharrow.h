@@ -67,6 +67,10 @@
 
 #include <stdint.h>
 
+#if defined(__arm__) && !defined(__ARM_PCS_VFP)
+#error "the library takes floats in the registers of the FPU: compile with -mfloat-abi=hard"
+#endif
+
 /* The version of this interface: the major number is another where callers have to change, and the
  * minor one where there is more to call. JAMBHARROW_VERSION is a thousand times the major number, and
  * the minor one. */
