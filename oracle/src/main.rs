@@ -15,6 +15,7 @@ mod campaign;
 mod compare;
 mod fillin;
 mod fixed_order_sums;
+mod forged_blocks;
 mod formats;
 mod fused_dots;
 mod gate_records;
@@ -173,6 +174,7 @@ fn compare_all(calls: &[&Call]) -> ExitCode {
         differ += comparison.differ;
     }
     println!("in all: {cases} cases, {values} values compared, {differ} differ");
+    println!("{} by the documents", tally::taken());
     if differ == 0 {
         ExitCode::SUCCESS
     } else {

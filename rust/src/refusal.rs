@@ -52,6 +52,9 @@ pub enum Refusal {
     WarmUp,
     /// 14: more weights than needed, in a `_cpu` layer.
     WeightsLong,
+    /// 15: an activation block that was not made of n readings, or has a quant past them that is not
+    /// 0.
+    WrongCount,
     /// Any other number, which the library that this crate was written for does not say.
     Unlisted(u32),
 }
@@ -83,6 +86,7 @@ impl Refusal {
         Refusal::Unknown,
         Refusal::WarmUp,
         Refusal::WeightsLong,
+        Refusal::WrongCount,
     ];
 
     /// The number that says no.
@@ -102,6 +106,7 @@ impl Refusal {
             Refusal::Unknown => 12,
             Refusal::WarmUp => 13,
             Refusal::WeightsLong => 14,
+            Refusal::WrongCount => 15,
             Refusal::Unlisted(number) => number,
         }
     }
@@ -130,6 +135,7 @@ impl Refusal {
             Refusal::Unknown => "unknown record kind or weight format",
             Refusal::WarmUp => "the window still has warm-up readings",
             Refusal::WeightsLong => "more weights than needed",
+            Refusal::WrongCount => "the block is not of n readings",
             Refusal::Unlisted(_) => "a number that is not in the table",
         }
     }

@@ -16,6 +16,15 @@ pub every-more : (p : ℕ → Bool) (k : ℕ) → every p k ≡ true → p k ≡
 unfolding every
 every-more p k h g = rw (add-one, h, g)
 
+cond-itself : (t : Bool) → cond t true false ≡ t
+cond-itself true = refl
+cond-itself false = refl
+
+-- a place where it holds changes nothing
+pub every-keeps : (p : ℕ → Bool) (k : ℕ) → p k ≡ true → every p (k + 1) ≡ every p k
+unfolding every
+every-keeps p k g = rw (add-one, g) (cond-itself (every p k))
+
 pub every-all : (p : ℕ → Bool) (k : ℕ) → ((j : ℕ) → j < k → p j ≡ true) → every p k ≡ true
 unfolding every
 every-all p zero h = refl
