@@ -56,6 +56,14 @@ fn compare(comparison: &mut Comparison) {
         let block: Vec<f32> = (0..VALUES).map(|_| any_bits(&mut random)).collect();
         case(&block, scale, BYTES)
     });
+    comparison.cases("runs of blocks about their scale", 1 << 16, |number| {
+        let mut random = Random::new(number);
+        let (scale, blocks) = (any_scale(&mut random), random.below(128));
+        let d = iq4_nl::widened(scale);
+        let part = |random: &mut Random| random.below(1 << 24) as f32 / 59_919.0 - 140.0;
+        let readings: Vec<f32> = (0..32 * blocks).map(|_| d * part(&mut random)).collect();
+        case(&readings, scale, blocks * BYTES + random.below(4))
+    });
     comparison.cases("runs of blocks of any swings", 1 << 18, |number| {
         let mut random = Random::new(number);
         let (scale, blocks) = (any_scale(&mut random), random.below(128));
