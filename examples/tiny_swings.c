@@ -5,17 +5,17 @@
  * decode to zeros. The quantizer says so, and the window is packed again in a finer unit, which is
  * kept beside the bytes.
  *
- *     cc -std=c99 -o tiny_swings examples/tiny_swings.c target/staticlib/libexports.a
+ *     tools/deliver
+ *     cc -std=c99 -I target/deliver/$(uname -m) -o tiny_swings examples/tiny_swings.c target/deliver/$(uname -m)/libjambharrow.a
  */
 #include <inttypes.h>
 #include <stdio.h>
 
-#include "../include/jambharrow.h"
+#include "jambharrow.h"
 
 #define READINGS 256
-/* A block is 34 bytes to 32 readings. */
-#define BLOCKS (READINGS / 32)
-#define BYTES (BLOCKS * 34)
+#define BLOCKS (READINGS / JAMBHARROW_Q8_0_BLOCK_VALUES)
+#define BYTES JAMBHARROW_ROW_BYTES(Q8_0, READINGS)
 /* How many of the finer unit make one: a power of two, so that no digit of a reading is lost. */
 #define FINER 1024.0f
 

@@ -6,17 +6,17 @@
  * the blocks are decoded both ways and held to the known values, and then brought to the order that
  * the logger works with.
  *
- *     cc -std=c99 -o two_orders examples/two_orders.c target/staticlib/libexports.a
+ *     tools/deliver
+ *     cc -std=c99 -I target/deliver/$(uname -m) -o two_orders examples/two_orders.c target/deliver/$(uname -m)/libjambharrow.a
  */
 #include <inttypes.h>
 #include <stdio.h>
 
-#include "../include/jambharrow.h"
+#include "jambharrow.h"
 
-/* A block is 18 bytes to 32 values. */
 #define BLOCKS 4
-#define VALUES (BLOCKS * 32)
-#define BYTES (BLOCKS * 18)
+#define VALUES (BLOCKS * JAMBHARROW_Q4_0_BLOCK_VALUES)
+#define BYTES JAMBHARROW_ROW_BYTES(Q4_0, VALUES)
 
 /* Weights with no pattern, from -1 to 1, for want of a model. */
 static void make_up(float weights[VALUES])

@@ -5,22 +5,20 @@
  * At the last wake the rows are closed, and each output's bits are printed, as `fillin` prints
  * them. At the end each output is held against the row's dot in one go.
  *
- *     cc -std=c99 -o wake_slots examples/wake_slots.c target/staticlib/libexports.a
+ *     tools/deliver
+ *     cc -std=c99 -I target/deliver/$(uname -m) -o wake_slots examples/wake_slots.c target/deliver/$(uname -m)/libjambharrow.a
  */
 #include <inttypes.h>
 #include <stddef.h>
 #include <stdio.h>
 #include <string.h>
 
-#include "../include/jambharrow.h"
+#include "jambharrow.h"
 
 #define IN_FEAT 2048
 #define OUT_FEAT 16
-/* A row is 8 blocks of 256 weights, each of 144 bytes. */
-#define BLOCK_BYTES 144
-#define ROW_BYTES (IN_FEAT / 256 * BLOCK_BYTES)
-/* A row of up to 8,192 weights is one chunk, and so one piece. */
-#define PIECES OUT_FEAT
+#define ROW_BYTES JAMBHARROW_ROW_BYTES(Q4_K, IN_FEAT)
+#define PIECES JAMBHARROW_PIECES(IN_FEAT, OUT_FEAT)
 /* How many pieces a wake slot has time for. */
 #define BUDGET 5
 
@@ -35,7 +33,7 @@ static struct kept storage;
 
 /* The weights, as they stand in flash memory, and the window that is answered: the same at every
  * wake until the rows are closed. */
-static uint8_t weights[OUT_FEAT * ROW_BYTES];
+static uint8_t weights[JAMBHARROW_LAYER_BYTES(Q4_K, IN_FEAT, OUT_FEAT)];
 static float readings[IN_FEAT];
 
 /* Numbers with no pattern, for want of a logger. */
@@ -45,7 +43,7 @@ static void make_up(void)
         weights[i] = (uint8_t)((i * UINT32_C(0x9E3779B9)) >> 24);
     }
     /* d and dmin of each block, near 2^-7. */
-    for (size_t block = 0; block < sizeof weights; block += BLOCK_BYTES) {
+    for (size_t block = 0; block < sizeof weights; block += JAMBHARROW_Q4_K_BLOCK_BYTES) {
         weights[block + 1] = 0x20;
         weights[block + 3] = 0x20;
     }
@@ -142,6 +140,10 @@ int main(void)
     jambharrow_size blocks[2];
     uint32_t no;
 
+    if (jambharrow_version() != JAMBHARROW_VERSION) {
+        puts("the library is not the header's");
+        return 1;
+    }
     make_up();
     no = begin();
     if (no != JAMBHARROW_DONE) {

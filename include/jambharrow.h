@@ -1,9 +1,9 @@
 /*
  * Jambharrow: the arithmetic of a small quantised network for a pressure logger.
  *
- * The functions are those of the static library libexports.a, for x86-64 Linux. Each is proved to
- * meet its contract in the source of the crate `exports`. None takes memory from the heap, keeps
- * anything between calls, or needs to be set up, and any number of threads may call at once.
+ * The functions are those of the static library libjambharrow.a. Each is proved to meet its contract
+ * in the source of the crate `exports`. None takes memory from the heap, keeps anything between
+ * calls, or needs to be set up.
  *
  * How a call is written. A call has the name of the function of quant.rs that it answers for,
  * behind `jambharrow_`, and its parameters in that function's order. quant.rs has no stepped layer,
@@ -21,9 +21,11 @@
  * Byte order. Packed bytes are as they lie in a weight file, with little-endian fields, on every
  * machine. Floats and numbers are the machine's own.
  *
- * Interrupts. A call keeps nothing outside its own stack and what it is lent, so it may be
+ * Interrupts and threads. A call keeps nothing outside its own stack and what it is lent. So any
+ * number of threads may call at once, each with buffers of its own for what is written; a call may be
  * interrupted anywhere, and an interrupt may call too, with buffers of its own, where it saves the
- * floating-point registers.
+ * floating-point registers. Calls expect the floating-point state in which C starts: rounding to
+ * nearest, and subnormals kept.
  *
  * How a call says no. A call that can refuse returns JAMBHARROW_DONE, or the number of the one
  * reason of enum jambharrow_refusal for which it refused. A refusal leaves all lent memory but
@@ -46,18 +48,35 @@
  * NaN. Every other result has the bits that its contract says. Where a result is a NaN, the bits
  * may be those of any NaN.
  *
- * Stack. A call needs at most 1,024 bytes of stack, unless the words beside it say more. memcpy and
- * memset, which the library takes from C, are not counted.
+ * Stack. A call needs at most so many bytes of stack, on every processor for which the library is
+ * delivered (`tools/stack` measures them). memcpy and memset, which the library takes from C, are not
+ * counted. A * is for any letters of a name.
+ *   163,840   linear_*_integer, linear_*_integer_rs
+ *     8,192   the same, rows of up to 4,096 readings
+ *     5,120   integer_dot_*
+ *     4,096   canonical_dot_*_fused, q6k_fused_f32_dot, linear_*_fused, linear_*_cpu, piece, run
+ *     2,560   dot_*_q8_block
+ *     2,048   quantize_block_q8, dequantize_*
+ *     1,024   every other call
+ *
+ * Licence. Apache License, Version 2.0. Who hands on a binary with this library in it hands on the
+ * files LICENSE and NOTICE too, which stand beside the library where it is delivered.
  */
 #ifndef JAMBHARROW_H
 #define JAMBHARROW_H
 
 #include <stdint.h>
 
+#if defined(__arm__) && !defined(__ARM_PCS_VFP)
+#error "the library takes floats in the registers of the FPU: compile with -mfloat-abi=hard"
+#endif
+
 /* The version of this interface: the major number is another where callers have to change, and the
- * minor one where there is more to call. */
+ * minor one where there is more to call. JAMBHARROW_VERSION is a thousand times the major number, and
+ * the minor one. */
 #define JAMBHARROW_VERSION_MAJOR 4
 #define JAMBHARROW_VERSION_MINOR 0
+#define JAMBHARROW_VERSION (1000 * JAMBHARROW_VERSION_MAJOR + JAMBHARROW_VERSION_MINOR)
 
 #ifdef __cplusplus
 extern "C" {
@@ -66,6 +85,11 @@ extern "C" {
 /* A size or a count, of 64 bits on every processor, as in the proofs. Where a size_t is shorter, it
  * is widened as it is handed over; a pointer to one is no pointer to this, and compilers say so. */
 typedef uint64_t jambharrow_size;
+
+/* The version of the library that is linked. Where it is not JAMBHARROW_VERSION, the library is not
+ * the one that this header was delivered with; one of the same major number and a higher minor one
+ * has all that the header declares. */
+uint32_t jambharrow_version(void);
 
 /* What a call that can refuse returns: that it did its work, or why it did not. */
 enum jambharrow_refusal {
@@ -115,9 +139,9 @@ static inline const char *jambharrow_refusal_words(uint32_t number)
     case JAMBHARROW_NOT_WHOLE_BLOCKS: return "packed bytes are not whole blocks";
     case JAMBHARROW_NOT_A_MULTIPLE: return "not a multiple of the block's values";
     case JAMBHARROW_WEIGHTS_SHORT: return "fewer weights than needed";
-    case JAMBHARROW_READINGS_SHORT: return "fewer readings than needed";
-    case JAMBHARROW_ROOM_SHORT: return "output, scratch, slots or marks too short";
-    case JAMBHARROW_TOO_LARGE: return "over a size that the call takes";
+    case JAMBHARROW_READINGS_SHORT: return "not as many readings as the call takes";
+    case JAMBHARROW_ROOM_SHORT: return "output, scratch, slots or marks of a wrong length";
+    case JAMBHARROW_TOO_LARGE: return "a size that the call does not take";
     case JAMBHARROW_WRONG_SUMS: return "the block's sums are not the sums of its 32s";
     case JAMBHARROW_OUTSIDE: return "a row or chunk outside the layer";
     case JAMBHARROW_ALREADY_DONE: return "that piece is already done";
@@ -143,6 +167,38 @@ static inline const char *jambharrow_refusal_words(uint32_t number)
 #define JAMBHARROW_MOST_FLOATS 131072
 /* Bytes at most, where a block decoder or a converter is given them. */
 #define JAMBHARROW_MOST_BYTES 16777216
+
+/* The sizes of packed weights and of what a layer needs beside them, for arrays. A format is named as
+ * in JAMBHARROW_ROW_BYTES(Q4_K, in_feat). */
+
+/* The values of a block, and its bytes. */
+#define JAMBHARROW_Q4_0_BLOCK_VALUES 32
+#define JAMBHARROW_Q4_0_BLOCK_BYTES 18
+#define JAMBHARROW_IQ4_NL_BLOCK_VALUES 32
+#define JAMBHARROW_IQ4_NL_BLOCK_BYTES 18
+#define JAMBHARROW_Q5_0_BLOCK_VALUES 32
+#define JAMBHARROW_Q5_0_BLOCK_BYTES 22
+#define JAMBHARROW_Q8_0_BLOCK_VALUES 32
+#define JAMBHARROW_Q8_0_BLOCK_BYTES 34
+#define JAMBHARROW_Q4_K_BLOCK_VALUES 256
+#define JAMBHARROW_Q4_K_BLOCK_BYTES 144
+#define JAMBHARROW_Q5_K_BLOCK_VALUES 256
+#define JAMBHARROW_Q5_K_BLOCK_BYTES 176
+#define JAMBHARROW_Q6_K_BLOCK_VALUES 256
+#define JAMBHARROW_Q6_K_BLOCK_BYTES 210
+/* The bytes of so many values, which are whole blocks: a row of weights, or what a quantizer writes. */
+#define JAMBHARROW_ROW_BYTES(format, values) \
+    ((values) / JAMBHARROW_##format##_BLOCK_VALUES * JAMBHARROW_##format##_BLOCK_BYTES)
+/* The bytes of a layer's weights, whose rows are whole blocks. */
+#define JAMBHARROW_LAYER_BYTES(format, in_feat, out_feat) \
+    ((out_feat) * JAMBHARROW_ROW_BYTES(format, in_feat))
+/* The places of a chunk, and so of a piece, at most. */
+#define JAMBHARROW_CHUNK 8192
+/* The pieces of a stepped layer. It has a slot, a float, and a mark, a byte, for each. */
+#define JAMBHARROW_PIECES(in_feat, out_feat) \
+    ((out_feat) * (((in_feat) + JAMBHARROW_CHUNK - 1) / JAMBHARROW_CHUNK))
+#define JAMBHARROW_SLOTS(in_feat, out_feat) JAMBHARROW_PIECES(in_feat, out_feat)
+#define JAMBHARROW_MARKS(in_feat, out_feat) JAMBHARROW_PIECES(in_feat, out_feat)
 
 /* Binary16, in which every packed block keeps its scales. */
 
@@ -322,7 +378,7 @@ uint32_t jambharrow_canonical_sum_pub(const float *x, jambharrow_size x_len,
 /* The block of at most 256 readings. d is the largest magnitude over 127. A quant is a reading times
  * the inverse of d, to the nearest whole number, within -127 to 127, and 0 past the readings. It
  * refuses with JAMBHARROW_READINGS_SHORT where there are more than 256 readings, and then writes
- * none of the four parts. It needs at most 2,048 bytes of stack. */
+ * none of the four parts. */
 uint32_t jambharrow_quantize_block_q8(const float *x, jambharrow_size x_len,
                                       float *d, int8_t qs[256], int32_t bsums[8],
                                       jambharrow_size *count);
@@ -330,8 +386,7 @@ uint32_t jambharrow_quantize_block_q8(const float *x, jambharrow_size x_len,
 /* The dot of the Q4_K block at the front of w and an activation block:
  * (w's d * d) * A - (w's dmin * d) * M. A is the sum of scale * nibble * quant over the places below
  * n, above 256 taken as 256, and M that of minimum * sum over all eight sums; n = 0 has no short cut.
- * Bytes behind the block are not looked at. It needs at most 2,048 bytes of stack. It refuses, in
- * this order, with
+ * Bytes behind the block are not looked at. It refuses, in this order, with
  *   JAMBHARROW_WEIGHTS_SHORT   fewer than 144 bytes;
  *   JAMBHARROW_WRONG_COUNT     an n, above 256 taken as 256, that is not the block's count, or a
  *                              quant past the count that is not 0; so a count above 256 is refused
@@ -347,8 +402,7 @@ uint32_t jambharrow_dot_q4k_q8_block(const uint8_t *w, jambharrow_size w_len,
  * plus 16 times its fifth bit, in the place of the nibble. It refuses in the same order, with
  *   JAMBHARROW_WEIGHTS_SHORT   fewer than 176 bytes;
  *   JAMBHARROW_WRONG_COUNT     a count that is not n, or a quant past it, as above;
- *   JAMBHARROW_WRONG_SUMS      sums that are not the sums of the block's 32s.
- * It needs at most 2,048 bytes of stack. */
+ *   JAMBHARROW_WRONG_SUMS      sums that are not the sums of the block's 32s. */
 uint32_t jambharrow_dot_q5k_q8_block(const uint8_t *w, jambharrow_size w_len,
                                      float d, const int8_t qs[256], const int32_t bsums[8],
                                      jambharrow_size count, jambharrow_size n, float *value,
@@ -356,8 +410,7 @@ uint32_t jambharrow_dot_q5k_q8_block(const uint8_t *w, jambharrow_size w_len,
 
 /* The dot of the Q6_K block at the front of w and an activation block: (w's d * d) * B, where B is
  * the sum of scale * (quant of w - 32) * quant over the places below n, above 256 taken as 256. The
- * sums are not looked at, nor are bytes behind the block. It needs at most 2,048 bytes of stack. It
- * refuses, in this order, with
+ * sums are not looked at, nor are bytes behind the block. It refuses, in this order, with
  *   JAMBHARROW_WEIGHTS_SHORT   fewer than 210 bytes;
  *   JAMBHARROW_WRONG_COUNT     a count that is not n, or a quant past it, as above. */
 uint32_t jambharrow_dot_q6k_q8_block(const uint8_t *w, jambharrow_size w_len,
@@ -373,8 +426,7 @@ uint32_t jambharrow_dot_q6k_q8_block(const uint8_t *w, jambharrow_size w_len,
  * then n = 0 is answered with +0.0; then it refuses, in this order, with
  *   JAMBHARROW_WEIGHTS_SHORT      blocks of fewer than n weights;
  *   JAMBHARROW_READINGS_SHORT     fewer than n readings.
- * Readings and whole blocks behind the first n places are not looked at. The dots in whole numbers
- * need at most 5,120 bytes of stack, the fused ones 4,096. */
+ * Readings and whole blocks behind the first n places are not looked at. */
 
 /* Q4_K, in whole numbers: each 256 readings are made an activation block, the last of fewer where n
  * ends inside it, and the dots of the blocks, as jambharrow_dot_q4k_q8_block has them, meet in the
@@ -421,22 +473,21 @@ uint32_t jambharrow_q6k_fused_f32_dot(const float *x, jambharrow_size x_len,
  *   JAMBHARROW_ROOM_SHORT       fewer than batch * out_feat places in y.
  * Bytes, readings and places of y behind those that it needs are not looked at, and kept. */
 
-/* Q4_K, fused: an output is jambharrow_canonical_dot_q4k_fused of its rows. It needs at most 4,096
- * bytes of stack. */
+/* Q4_K, fused: an output is jambharrow_canonical_dot_q4k_fused of its rows. */
 uint32_t jambharrow_linear_q4_k_fused(const float *x, jambharrow_size x_len,
                                       const uint8_t *w, jambharrow_size w_len,
                                       float *y, jambharrow_size y_len,
                                       jambharrow_size batch, jambharrow_size in_feat,
                                       jambharrow_size out_feat, jambharrow_size blocks[2]);
 
-/* Q5_K, fused: the same by jambharrow_canonical_dot_q5k_fused, with as much stack. */
+/* Q5_K, fused: the same by jambharrow_canonical_dot_q5k_fused. */
 uint32_t jambharrow_linear_q5_k_fused(const float *x, jambharrow_size x_len,
                                       const uint8_t *w, jambharrow_size w_len,
                                       float *y, jambharrow_size y_len,
                                       jambharrow_size batch, jambharrow_size in_feat,
                                       jambharrow_size out_feat, jambharrow_size blocks[2]);
 
-/* Q6_K, fused: the same by jambharrow_q6k_fused_f32_dot, with as much stack. */
+/* Q6_K, fused: the same by jambharrow_q6k_fused_f32_dot. */
 uint32_t jambharrow_linear_q6_k_fused(const float *x, jambharrow_size x_len,
                                       const uint8_t *w, jambharrow_size w_len,
                                       float *y, jambharrow_size y_len,
@@ -445,45 +496,45 @@ uint32_t jambharrow_linear_q6_k_fused(const float *x, jambharrow_size x_len,
 
 /* Q4_K, in whole numbers: each row of readings is made activation blocks once, and an output is the
  * dots of its rows' blocks, as jambharrow_dot_q4k_q8_block has them, met in the tree. The blocks of
- * the longest row stand on the stack: it needs at most 163,840 bytes of it, whatever in_feat is. */
+ * a row of readings stand on the stack. */
 uint32_t jambharrow_linear_q4_k_integer(const float *x, jambharrow_size x_len,
                                         const uint8_t *w, jambharrow_size w_len,
                                         float *y, jambharrow_size y_len,
                                         jambharrow_size batch, jambharrow_size in_feat,
                                         jambharrow_size out_feat, jambharrow_size blocks[2]);
 
-/* Q5_K, in whole numbers: the same by jambharrow_dot_q5k_q8_block, with as much stack. */
+/* Q5_K, in whole numbers: the same by jambharrow_dot_q5k_q8_block. */
 uint32_t jambharrow_linear_q5_k_integer(const float *x, jambharrow_size x_len,
                                         const uint8_t *w, jambharrow_size w_len,
                                         float *y, jambharrow_size y_len,
                                         jambharrow_size batch, jambharrow_size in_feat,
                                         jambharrow_size out_feat, jambharrow_size blocks[2]);
 
-/* Q6_K, in whole numbers: the same by jambharrow_dot_q6k_q8_block, with as much stack. */
+/* Q6_K, in whole numbers: the same by jambharrow_dot_q6k_q8_block. */
 uint32_t jambharrow_linear_q6_k_integer(const float *x, jambharrow_size x_len,
                                         const uint8_t *w, jambharrow_size w_len,
                                         float *y, jambharrow_size y_len,
                                         jambharrow_size batch, jambharrow_size in_feat,
                                         jambharrow_size out_feat, jambharrow_size blocks[2]);
 
-/* Q4_K, in whole numbers as jambharrow_linear_q4_k_integer and with as much stack, but the dots of
- * the blocks meet in a running sum from +0.0. */
+/* Q4_K, in whole numbers as jambharrow_linear_q4_k_integer, but the dots of the blocks meet in a
+ * running sum from +0.0. */
 uint32_t jambharrow_linear_q4_k_integer_rs(const float *x, jambharrow_size x_len,
                                            const uint8_t *w, jambharrow_size w_len,
                                            float *y, jambharrow_size y_len,
                                            jambharrow_size batch, jambharrow_size in_feat,
                                            jambharrow_size out_feat, jambharrow_size blocks[2]);
 
-/* Q5_K, in whole numbers as jambharrow_linear_q5_k_integer and with as much stack, but the dots of
- * the blocks meet in a running sum from +0.0. */
+/* Q5_K, in whole numbers as jambharrow_linear_q5_k_integer, but the dots of the blocks meet in a
+ * running sum from +0.0. */
 uint32_t jambharrow_linear_q5_k_integer_rs(const float *x, jambharrow_size x_len,
                                            const uint8_t *w, jambharrow_size w_len,
                                            float *y, jambharrow_size y_len,
                                            jambharrow_size batch, jambharrow_size in_feat,
                                            jambharrow_size out_feat, jambharrow_size blocks[2]);
 
-/* Q6_K, in whole numbers as jambharrow_linear_q6_k_integer and with as much stack, but the dots of
- * the blocks meet in a running sum from +0.0. */
+/* Q6_K, in whole numbers as jambharrow_linear_q6_k_integer, but the dots of the blocks meet in a
+ * running sum from +0.0. */
 uint32_t jambharrow_linear_q6_k_integer_rs(const float *x, jambharrow_size x_len,
                                            const uint8_t *w, jambharrow_size w_len,
                                            float *y, jambharrow_size y_len,
@@ -492,8 +543,7 @@ uint32_t jambharrow_linear_q6_k_integer_rs(const float *x, jambharrow_size x_len
 
 /* The `_cpu` layers decode each row of weights into `scratch`, and an output is
  * jambharrow_canonical_dot_pub of its rows. Afterwards the first in_feat places of scratch hold the
- * last row decoded, or what they held, where batch or out_feat is 0; places behind them are kept.
- * Each needs at most 4,096 bytes of stack. */
+ * last row decoded, or what they held, where batch or out_feat is 0; places behind them are kept. */
 
 /* Q4_K. Rows need not be whole blocks: two rows of 128 share one. It refuses, in this order, with
  *   JAMBHARROW_TOO_LARGE          as the layers above;
@@ -591,8 +641,7 @@ uint32_t jambharrow_open(uint8_t format, jambharrow_size in_feat, jambharrow_siz
 /* Works one piece: its slot becomes the sum of its chunk of the row, and its mark 1. At the end it
  * refuses, in this order, with
  *   JAMBHARROW_OUTSIDE        a row or a chunk that the layer does not have;
- *   JAMBHARROW_ALREADY_DONE   a piece whose mark is not 0.
- * It needs at most 4,096 bytes of stack. */
+ *   JAMBHARROW_ALREADY_DONE   a piece whose mark is not 0. */
 uint32_t jambharrow_piece(uint8_t format, jambharrow_size in_feat, jambharrow_size out_feat,
                           const uint8_t *w, jambharrow_size w_len,
                           const float *x, jambharrow_size x_len,
@@ -602,8 +651,7 @@ uint32_t jambharrow_piece(uint8_t format, jambharrow_size in_feat, jambharrow_si
 
 /* Works the next open pieces in row order, chunks rising, at most `budget`. `done` is how many it
  * worked, the smaller of `budget` and the pieces that were open, and `left` how many stay open.
- * Both are written only where JAMBHARROW_DONE is returned. It needs at most 4,096 bytes of
- * stack. */
+ * Both are written only where JAMBHARROW_DONE is returned. */
 uint32_t jambharrow_run(uint8_t format, jambharrow_size in_feat, jambharrow_size out_feat,
                         const uint8_t *w, jambharrow_size w_len,
                         const float *x, jambharrow_size x_len,

@@ -14,11 +14,7 @@ const LAYER: Layer = Layer {
     in_feat: 2_048,
     out_feat: 16,
 };
-/// A row is 8 blocks of 256 weights, each of 144 bytes.
-const BLOCK_BYTES: usize = 144;
-const ROW_BYTES: usize = LAYER.in_feat / 256 * BLOCK_BYTES;
-/// A row of up to 8,192 weights is one chunk, and so one piece.
-const PIECES: usize = LAYER.out_feat;
+const PIECES: usize = LAYER.pieces();
 /// How many pieces a wake slot has time for.
 const BUDGET: usize = 5;
 
@@ -61,13 +57,15 @@ fn made_up(place: usize) -> u8 {
 }
 
 /// The weights, as they stand in flash memory: d and dmin of each block are near 2^-7.
-fn weights() -> Vec<u8> {
-    let mut weights: Vec<u8> = (0..LAYER.out_feat * ROW_BYTES).map(made_up).collect();
-    for block in weights.chunks_exact_mut(BLOCK_BYTES) {
+fn weights() -> Result<Vec<u8>, Refusal> {
+    let bytes = LAYER.weight_bytes()?;
+    let mut weights: Vec<u8> = (0..bytes).map(made_up).collect();
+    let blocks = LAYER.out_feat * (LAYER.in_feat / 256);
+    for block in weights.chunks_exact_mut(bytes / blocks) {
         block[1] = 0x20;
         block[3] = 0x20;
     }
-    weights
+    Ok(weights)
 }
 
 /// The window that is answered: the same at every wake until the rows are closed.
@@ -77,10 +75,11 @@ fn readings() -> Vec<f32> {
 }
 
 /// All wakes of one window.
-fn answer_window(weights: &[u8], readings: &[f32]) -> Result<(), Refusal> {
+fn answer_window() -> Result<(), Refusal> {
+    let (weights, readings) = (weights()?, readings());
     let mut kept = Kept::begin()?;
     for slot in 1.. {
-        let Progress { done, left } = kept.wake(weights, readings)?;
+        let Progress { done, left } = kept.wake(&weights, &readings)?;
         println!("wake {slot}: {done} done, {left} left");
         if left == 0 {
             break;
@@ -88,10 +87,10 @@ fn answer_window(weights: &[u8], readings: &[f32]) -> Result<(), Refusal> {
     }
     let y = kept.finish()?;
     let mut same = 0;
-    for (row, output) in y.iter().enumerate() {
+    let rows = weights.chunks_exact(weights.len() / LAYER.out_feat);
+    for (row, (output, packed)) in y.iter().zip(rows).enumerate() {
         println!("output {row}: {:08X}", output.to_bits());
-        let packed = &weights[row * ROW_BYTES..][..ROW_BYTES];
-        let in_one_go = canonical_dot_q4k_fused(readings, packed, LAYER.in_feat)?;
+        let in_one_go = canonical_dot_q4k_fused(&readings, packed, LAYER.in_feat)?;
         if in_one_go.to_bits() == output.to_bits() {
             same += 1;
         }
@@ -101,11 +100,11 @@ fn answer_window(weights: &[u8], readings: &[f32]) -> Result<(), Refusal> {
 }
 
 fn main() -> ExitCode {
-    match answer_window(&weights(), &readings()) {
+    match answer_window() {
         Ok(()) => ExitCode::SUCCESS,
         Err(refusal) => {
-            // Of short weights this tells how many blocks there are, and how many are needed.
-            println!("refused {}: {refusal}", refusal.number());
+            // The number and its words; of short weights, how many blocks there are and are needed.
+            println!("{refusal}");
             ExitCode::FAILURE
         }
     }

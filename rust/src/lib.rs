@@ -1,6 +1,7 @@
 //! The arithmetic of a small quantised network for a pressure logger. The work is done by a library
 //! that is proved to meet its contracts; these functions are the safe way to it from Rust. They
-//! need no set-up, keep nothing between calls and take no memory from the heap.
+//! need no set-up, keep nothing between calls and take no memory from the heap; the crate is
+//! `no_std`.
 //!
 //! A function has the name and the parameters of the one of quant.rs that it answers for; where
 //! that returns a vector, it fills memory that is lent to it, where that decodes a layer's weights
@@ -13,6 +14,7 @@
 //! [`linear_q4_0_ggml_cpu`] work on such blocks, and [`q4_0_to_ggml`] and [`q4_0_from_ggml`] convert
 //! them. Nor has it IQ4_NL: [`dequantize_iq4_nl`], [`linear_iq4_nl_cpu`], and [`quantize_iq4_nl`], which
 //! is given its scale.
+#![cfg_attr(not(test), no_std)]
 
 mod activation_blocks;
 mod binary16;
@@ -52,6 +54,16 @@ pub use linear_layers::{
 };
 pub use refusal::{Blocks, Refusal};
 pub use stepped_layer::{Layer, Progress};
+
+/// The version of the library that is linked: a thousand times its major number, and its minor one.
+///
+/// ```
+/// assert_eq!(jambharrow::version() / 1_000, 4);
+/// ```
+#[inline]
+pub fn version() -> u32 {
+    sys::jambharrow_version()
+}
 
 /// n and in_feat at most.
 pub const MOST_IN: usize = 131_072;

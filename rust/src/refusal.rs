@@ -1,9 +1,10 @@
 //! The numbers that say no.
 use crate::sys::Size;
-use std::error::Error;
-use std::fmt;
+use core::error::Error;
+use core::fmt;
 
-/// Why a call refused. A refusal leaves all lent memory as it found it.
+/// Why a call refused. A refusal leaves all lent memory as it found it. It prints its number and its
+/// words. A later version may have further refusals.
 ///
 /// ```
 /// use jambharrow::{canonical_dot_q4k_fused, Blocks, Refusal};
@@ -14,9 +15,10 @@ use std::fmt;
 /// let short = Refusal::WeightsShort(Some(Blocks { found: 8, needed: 16 }));
 /// assert_eq!(said, Err(short));
 /// assert_eq!(short.number(), 3);
-/// assert_eq!(short.to_string(), "8 whole blocks of weights, 16 needed");
+/// assert_eq!(short.to_string(), "refused 3: 8 whole blocks of weights, 16 needed");
 /// ```
 #[derive(Debug, Clone, Copy, PartialEq, Eq, Hash)]
+#[non_exhaustive]
 pub enum Refusal {
     /// 1: packed bytes are not whole blocks.
     NotWholeBlocks,
@@ -53,6 +55,8 @@ pub enum Refusal {
     /// 15: an activation block that was not made of n readings, or has a quant past them that is not
     /// 0.
     WrongCount,
+    /// Any other number, which the library that this crate was written for does not say.
+    Unlisted(u32),
 }
 
 /// How short weights are, in blocks.
@@ -66,8 +70,8 @@ pub struct Blocks {
 }
 
 impl Refusal {
-    /// Every refusal, in the order of the numbers, without counts.
-    pub const ALL: [Refusal; 15] = [
+    /// Every refusal of the table, in the order of the numbers, without counts.
+    pub const ALL: &'static [Refusal] = &[
         Refusal::NotWholeBlocks,
         Refusal::NotAMultiple,
         Refusal::WeightsShort(None),
@@ -103,26 +107,26 @@ impl Refusal {
             Refusal::WarmUp => 13,
             Refusal::WeightsLong => 14,
             Refusal::WrongCount => 15,
+            Refusal::Unlisted(number) => number,
         }
     }
 
-    /// The refusal of a number, without counts; of 0, by which a call says that it did its work,
-    /// there is none.
+    /// The refusal of a number, without counts; of 0, by which a call says that it did its work, and
+    /// of a number that is not in the table, there is none.
     pub fn of(number: u32) -> Option<Refusal> {
-        Refusal::ALL
-            .into_iter()
-            .find(|refusal| refusal.number() == number)
+        let mut all = Refusal::ALL.iter().copied();
+        all.find(|refusal| refusal.number() == number)
     }
 
     /// The words for the number, which are those of the C header.
-    fn words(self) -> &'static str {
+    pub fn words(self) -> &'static str {
         match self {
             Refusal::NotWholeBlocks => "packed bytes are not whole blocks",
             Refusal::NotAMultiple => "not a multiple of the block's values",
             Refusal::WeightsShort(_) => "fewer weights than needed",
-            Refusal::ReadingsShort => "fewer readings than needed",
-            Refusal::RoomShort => "output, scratch, slots or marks too short",
-            Refusal::TooLarge => "over a size that the call takes",
+            Refusal::ReadingsShort => "not as many readings as the call takes",
+            Refusal::RoomShort => "output, scratch, slots or marks of a wrong length",
+            Refusal::TooLarge => "a size that the call does not take",
             Refusal::WrongSums => "the block's sums are not the sums of its 32s",
             Refusal::Outside => "a row or chunk outside the layer",
             Refusal::AlreadyDone => "that piece is already done",
@@ -132,6 +136,7 @@ impl Refusal {
             Refusal::WarmUp => "the window still has warm-up readings",
             Refusal::WeightsLong => "more weights than needed",
             Refusal::WrongCount => "the block is not of n readings",
+            Refusal::Unlisted(_) => "a number that is not in the table",
         }
     }
 }
@@ -142,7 +147,7 @@ pub(crate) fn done(number: u32) -> Result<(), Refusal> {
     if number == 0 {
         return Ok(());
     }
-    Err(Refusal::of(number).expect("a call says no by a number of the table"))
+    Err(Refusal::of(number).unwrap_or(Refusal::Unlisted(number)))
 }
 
 /// What a call says that stores a value through the pointer it is given, by the number it returns.
@@ -187,6 +192,7 @@ impl fmt::Display for Blocks {
 
 impl fmt::Display for Refusal {
     fn fmt(&self, to: &mut fmt::Formatter<'_>) -> fmt::Result {
+        write!(to, "refused {}: ", self.number())?;
         match self {
             Refusal::WeightsShort(Some(blocks)) => blocks.fmt(to),
             refusal => to.write_str(refusal.words()),
@@ -208,20 +214,36 @@ mod tests {
 
     #[test]
     fn numbers_are_those_of_the_table() {
-        for (place, refusal) in Refusal::ALL.into_iter().enumerate() {
+        for (place, &refusal) in Refusal::ALL.iter().enumerate() {
             assert_eq!(refusal.number() as usize, place + 1);
             assert_eq!(Refusal::of(refusal.number()), Some(refusal));
         }
         assert_eq!(Refusal::of(0), None);
-        assert_eq!(Refusal::of(16), None);
+        assert_eq!(Refusal::of(Refusal::ALL.len() as u32 + 1), None);
+    }
+
+    #[test]
+    fn a_number_that_is_not_in_the_table_is_a_refusal_too() {
+        assert_eq!(done(99), Err(Refusal::Unlisted(99)));
+        assert_eq!(Refusal::Unlisted(99).number(), 99);
+        let told = Refusal::Unlisted(99).to_string();
+        assert_eq!(told, "refused 99: a number that is not in the table");
+        assert_eq!(answer(|_| 99), Err(Refusal::Unlisted(99)));
+        assert_eq!(counted(|_| 99), Err(Refusal::Unlisted(99)));
     }
 
     #[test]
     fn short_weights_are_told_in_blocks() {
         let told = |found, needed| short(found, needed).to_string();
-        assert_eq!(told(8, 16), "8 whole blocks of weights, 16 needed");
-        assert_eq!(told(1, 16), "1 whole block of weights, 16 needed");
-        assert_eq!(told(0, 1), "0 whole blocks of weights, 1 needed");
+        assert_eq!(
+            told(8, 16),
+            "refused 3: 8 whole blocks of weights, 16 needed"
+        );
+        assert_eq!(
+            told(1, 16),
+            "refused 3: 1 whole block of weights, 16 needed"
+        );
+        assert_eq!(told(0, 1), "refused 3: 0 whole blocks of weights, 1 needed");
         assert_eq!(short(8, 16).number(), 3);
     }
 
@@ -234,7 +256,7 @@ mod tests {
             })
         };
         assert_eq!(said(0), Ok(()));
-        for refusal in Refusal::ALL {
+        for &refusal in Refusal::ALL {
             let wanted = match refusal {
                 Refusal::WeightsShort(None) => short(8, 16),
                 other => other,

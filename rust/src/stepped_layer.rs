@@ -2,6 +2,7 @@
 //! number of wake slots.
 use crate::refusal::{counted, done, Refusal};
 use crate::sys::{self, Size};
+use crate::{MOST_IN, MOST_OUT};
 
 /// A layer that is worked by pieces. A piece is one chunk, of at most 8,192 places, of one row; it
 /// has a slot, where its sum waits, and a mark, which is nonzero once it is done. Slots and marks go
@@ -20,14 +21,16 @@ use crate::sys::{self, Size};
 /// ```
 /// use jambharrow::{Layer, Progress};
 ///
-/// let layer = Layer { format: Layer::Q4_K, in_feat: 16_384, out_feat: 1 };
-/// let (w, x) = ([0; 64 * 144], [1.0; 16_384]);
-/// let (mut slots, mut marks, mut y) = ([0.0; 2], [0; 2], [7.0]);
-/// layer.open(&mut slots, &mut marks)?;
-/// let progress = layer.run(&w, &x, 1, &mut slots, &mut marks)?;
+/// const LAYER: Layer = Layer { format: Layer::Q4_K, in_feat: 16_384, out_feat: 1 };
+/// const PIECES: usize = LAYER.pieces();
+///
+/// let (w, x) = (vec![0; LAYER.weight_bytes()?], [1.0; LAYER.in_feat]);
+/// let (mut slots, mut marks, mut y) = ([0.0; PIECES], [0; PIECES], [7.0; LAYER.out_feat]);
+/// LAYER.open(&mut slots, &mut marks)?;
+/// let progress = LAYER.run(&w, &x, 1, &mut slots, &mut marks)?;
 /// assert_eq!(progress, Progress { done: 1, left: 1 });
-/// layer.piece(&w, &x, 0, 1, &mut slots, &mut marks)?;
-/// layer.close(0, &slots, &marks, &mut y)?;
+/// LAYER.piece(&w, &x, 0, 1, &mut slots, &mut marks)?;
+/// LAYER.close(0, &slots, &marks, &mut y)?;
 /// assert_eq!(y, [0.0]);
 /// # Ok::<(), jambharrow::Refusal>(())
 /// ```
@@ -61,6 +64,46 @@ impl Layer {
     pub const Q5_K: u8 = 5;
     /// The format byte of Q6_K.
     pub const Q6_K: u8 = 6;
+
+    /// The places of a chunk, and so of a piece, at most.
+    pub const CHUNK: usize = 8_192;
+
+    /// How many pieces the layer has, and so how many slots and how many marks it needs.
+    pub const fn pieces(self) -> usize {
+        self.out_feat
+            .saturating_mul(self.in_feat.div_ceil(Layer::CHUNK))
+    }
+
+    /// How many bytes the weights of the layer have. Where every call refuses the layer for its
+    /// format or its sizes, so does this, in the same order.
+    ///
+    /// ```
+    /// use jambharrow::{Layer, Refusal};
+    ///
+    /// let layer = Layer { format: Layer::Q4_K, in_feat: 2_048, out_feat: 16 };
+    /// assert_eq!(layer.weight_bytes(), Ok(18_432));
+    /// let unknown = Layer { format: 3, ..layer };
+    /// assert_eq!(unknown.weight_bytes(), Err(Refusal::Unknown));
+    /// ```
+    pub const fn weight_bytes(self) -> Result<usize, Refusal> {
+        let block_bytes = match self.format {
+            Layer::Q4_K => 144,
+            Layer::Q5_K => 176,
+            Layer::Q6_K => 210,
+            _ => return Err(Refusal::Unknown),
+        };
+        if self.in_feat > MOST_IN || self.out_feat > MOST_OUT {
+            return Err(Refusal::TooLarge);
+        }
+        if self.in_feat % 256 != 0 {
+            return Err(Refusal::NotAMultiple);
+        }
+        // On a processor of 32 bits the largest layers have more bytes than there are.
+        match (self.in_feat / 256 * block_bytes).checked_mul(self.out_feat) {
+            Some(bytes) => Ok(bytes),
+            None => Err(Refusal::TooLarge),
+        }
+    }
 
     /// Begins the work: the mark of every piece becomes 0, and its slot +0.0.
     #[inline]
@@ -190,7 +233,6 @@ mod tests {
     use super::*;
     use crate::refusal::short;
     use crate::{canonical_dot_q4k_fused, canonical_dot_q5k_fused, q6k_fused_f32_dot};
-    use crate::{MOST_IN, MOST_OUT};
 
     /// Three rows of two chunks, the second of one block.
     const LAYER: Layer = Layer {
@@ -245,6 +287,43 @@ mod tests {
             self.slots = slots.into_iter().map(f32::to_le_bytes).collect();
             did
         }
+    }
+
+    #[test]
+    fn what_a_layer_needs() {
+        assert_eq!(LAYER.pieces(), PIECES);
+        let sizes = |format, in_feat, out_feat| {
+            let layer = Layer {
+                format,
+                in_feat,
+                out_feat,
+            };
+            (layer.pieces(), layer.weight_bytes())
+        };
+        assert_eq!(sizes(Layer::Q4_K, 2_048, 16), (16, Ok(18_432)));
+        assert_eq!(sizes(Layer::Q5_K, 2_048, 16), (16, Ok(22_528)));
+        assert_eq!(sizes(Layer::Q6_K, 8_448, 3), (6, Ok(20_790)));
+        assert_eq!(sizes(Layer::Q6_K, 0, 3), (0, Ok(0)));
+        assert_eq!(sizes(3, 0, 3), (0, Err(Refusal::Unknown)));
+        assert_eq!(sizes(4, 1, 3), (3, Err(Refusal::NotAMultiple)));
+        let huge = sizes(4, usize::MAX, usize::MAX);
+        assert_eq!(huge, (usize::MAX, Err(Refusal::TooLarge)));
+        assert_eq!(sizes(4, MOST_IN + 1, 1), (17, Err(Refusal::TooLarge)));
+        let rows = MOST_OUT + 1;
+        assert_eq!(sizes(4, 1, rows), (rows, Err(Refusal::TooLarge)));
+        // What it says is what a call needs, and no byte less.
+        let (w, x) = (vec![0; 20_790], readings());
+        let layer = Layer {
+            format: Layer::Q6_K,
+            ..LAYER
+        };
+        let (mut slots, mut marks) = ([0.0; PIECES], [0; PIECES]);
+        let all = layer.run(&w, &x, 0, &mut slots, &mut marks);
+        assert_eq!(all, Ok(Progress { done: 0, left: 6 }));
+        let cut = layer.run(&w[1..], &x, 0, &mut slots, &mut marks);
+        assert_eq!(cut, Err(short(98, 99)));
+        let cut = layer.run(&w, &x, 0, &mut slots[1..], &mut marks);
+        assert_eq!(cut, Err(Refusal::RoomShort));
     }
 
     #[test]

@@ -63,6 +63,8 @@ pub type CpuLayer = unsafe extern "C" fn(
 ) -> u32;
 
 unsafe extern "C" {
+    pub safe fn jambharrow_version() -> u32;
+
     pub safe fn jambharrow_f16_to_f32(half: u16) -> f32;
     pub fn jambharrow_f32_to_f16(bits: u32, how: *mut u32) -> u16;
 

@@ -4,8 +4,8 @@
 use jambharrow::{
     canonical_dot_q4k_fused, dequantize_iq4_nl, dequantize_q4_0, dequantize_q4_0_ggml,
     dequantize_q8_0, linear_q4_0_cpu, linear_q4_0_ggml_cpu, linear_q4_k_fused, q4_0_from_ggml,
-    quantize_iq4_nl, quantize_q4_0, quantize_q4_0_ggml, quantize_q8_0, Blocks, Layer, Lost,
-    Refusal,
+    quantize_block_q8, quantize_iq4_nl, quantize_q4_0, quantize_q4_0_ggml, quantize_q8_0, Blocks,
+    Layer, Lost, Refusal,
 };
 
 const LAYER: Layer = Layer {
@@ -53,6 +53,29 @@ fn a_row_says_its_own_counts_and_a_torn_block_first() {
     assert_eq!(row(8 * 144), Err(short(8, 16)));
     assert_eq!(row(8 * 144 + 1), Err(Refusal::NotWholeBlocks));
     assert_eq!(row(16 * 144), Ok(0.0));
+}
+
+#[test]
+fn a_refusal_prints_its_number_and_words_that_are_true_of_the_call() {
+    let told = |said: Result<(), Refusal>| said.expect_err("it refuses").to_string();
+    let too_many = quantize_block_q8(&[0.0; 257]).map(|_| ());
+    let readings = "refused 4: not as many readings as the call takes";
+    assert_eq!(told(too_many), readings);
+    let layer = |readings, outputs| {
+        let (x, mut y) = (vec![0.0; readings], vec![0.0; outputs]);
+        told(linear_q4_0_cpu(
+            &x,
+            &[0; 18],
+            &mut y,
+            &mut [0.0; 32],
+            1,
+            32,
+            1,
+        ))
+    };
+    assert_eq!([layer(31, 1), layer(33, 1)], [readings; 2]);
+    let room = "refused 5: output, scratch, slots or marks of a wrong length";
+    assert_eq!([layer(32, 0), layer(32, 2)], [room; 2]);
 }
 
 /// What each quantizer lost of a block, and what its bytes decode to.

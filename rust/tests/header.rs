@@ -1,6 +1,13 @@
 //! The crate beside include/jambharrow.h: the same version, numbers, words and sizes.
-use jambharrow::{How, Layer, Refusal, MOST_BATCH, MOST_BYTES, MOST_FLOATS, MOST_IN, MOST_OUT};
+use jambharrow::{
+    dequantize_iq4_nl, dequantize_q4_0, dequantize_q4_k, dequantize_q5_0, dequantize_q5_k,
+    dequantize_q6_k, dequantize_q8_0, How, Layer, Refusal, MOST_BATCH, MOST_BYTES, MOST_FLOATS,
+    MOST_IN, MOST_OUT,
+};
 use std::fmt::Debug;
+
+/// A block decoder.
+type Decoder = fn(&[u8], &mut [f32]) -> Result<(), Refusal>;
 
 const HEADER: &str = include_str!("../../include/jambharrow.h");
 
@@ -60,13 +67,18 @@ fn words() -> Vec<(String, String)> {
 #[test]
 fn numbers_are_the_same() {
     let mut ours = vec![("DONE".into(), 0)];
-    ours.extend(Refusal::ALL.map(|refusal| (c_name(refusal), refusal.number())));
+    ours.extend(
+        Refusal::ALL
+            .iter()
+            .map(|refusal| (c_name(refusal), refusal.number())),
+    );
     assert_eq!(numbers("jambharrow_refusal"), ours);
 }
 
 #[test]
 fn words_are_the_same() {
-    let ours = Refusal::ALL.map(|refusal| (c_name(refusal), refusal.to_string()));
+    let pair = |refusal: &Refusal| (c_name(refusal), refusal.words().to_string());
+    let ours: Vec<_> = Refusal::ALL.iter().map(pair).collect();
     assert_eq!(words(), ours);
 }
 
@@ -80,6 +92,7 @@ fn what_is_no_refusal_has_words_of_its_own() {
         panic!("words for done and for an unknown number, and not {own:?}");
     };
     assert_ne!(done, unknown);
+    assert_eq!(unknown, Refusal::Unlisted(99).words());
     for (name, words) in words() {
         assert!(!own.contains(&words), "{name}: {words}");
     }
@@ -118,6 +131,7 @@ fn the_version_is_the_same() {
     let minor = of_crate(env!("CARGO_PKG_VERSION_MINOR"));
     assert_eq!(defined("VERSION_MAJOR"), major);
     assert_eq!(defined("VERSION_MINOR"), minor);
+    assert_eq!(jambharrow::version() as usize, 1_000 * major + minor);
 }
 
 #[test]
@@ -127,4 +141,41 @@ fn sizes_are_the_same() {
     assert_eq!(defined("MOST_BATCH"), MOST_BATCH);
     assert_eq!(defined("MOST_FLOATS"), MOST_FLOATS);
     assert_eq!(defined("MOST_BYTES"), MOST_BYTES);
+    assert_eq!(defined("CHUNK"), Layer::CHUNK);
+}
+
+#[test]
+fn blocks_are_as_long_as_the_header_says() {
+    let decoders: [(&str, Decoder); 7] = [
+        ("Q4_0", dequantize_q4_0),
+        ("IQ4_NL", dequantize_iq4_nl),
+        ("Q5_0", dequantize_q5_0),
+        ("Q8_0", dequantize_q8_0),
+        ("Q4_K", dequantize_q4_k),
+        ("Q5_K", dequantize_q5_k),
+        ("Q6_K", dequantize_q6_k),
+    ];
+    for (name, decoder) in decoders {
+        let values = defined(&format!("{name}_BLOCK_VALUES"));
+        let bytes = defined(&format!("{name}_BLOCK_BYTES"));
+        let decode = |bytes, values| decoder(&vec![0; bytes], &mut vec![0.0; values]);
+        assert_eq!(decode(bytes, values), Ok(()));
+        assert_eq!(decode(bytes, values - 1), Err(Refusal::RoomShort));
+        assert_eq!(decode(bytes - 1, values), Err(Refusal::NotWholeBlocks));
+    }
+    assert_eq!(HEADER.matches("_BLOCK_BYTES ").count(), decoders.len());
+}
+
+#[test]
+fn layers_are_as_long_as_the_header_says() {
+    for (name, format) in [("Q4_K", 4), ("Q5_K", 5), ("Q6_K", 6)] {
+        let in_feat = defined(&format!("{name}_BLOCK_VALUES"));
+        let layer = Layer {
+            format,
+            in_feat,
+            out_feat: 1,
+        };
+        let bytes = defined(&format!("{name}_BLOCK_BYTES"));
+        assert_eq!(layer.weight_bytes(), Ok(bytes));
+    }
 }

@@ -54,6 +54,7 @@ use Rattle.exports.proofs.stepped_layer.jambharrow_open.Reads as openin
 use Rattle.exports.proofs.stepped_layer.jambharrow_piece.Reads as piece
 use Rattle.exports.proofs.stepped_layer.jambharrow_run.Reads as running
 use Rattle.exports.proofs.stepped_layer.jambharrow_close.Reads as closing
+use Rattle.exports.proofs.version.jambharrow_version.Reads as version
 
 pub f16-to-f32-once : OneResult f16-to-f32.Post
 f16-to-f32-once κs a x y s t h k = same h k
@@ -199,3 +200,6 @@ run-once κs a x y s t h k = both h k
 
 pub close-once : OneCall closing.Post (λ κs s. now (s .1 .1 .1 .1 .1 .1 .0))
 close-once κs a x y s t h k = both h k
+
+pub version-once : OneResult version.Post
+version-once κs a x y s t h k = same h k

@@ -9,3 +9,4 @@ mod fixed_order_sums;
 mod fused_dots;
 mod linear_layers;
 mod stepped_layer;
+mod version;
