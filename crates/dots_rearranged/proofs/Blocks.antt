@@ -1,0 +1,69 @@
+-- What the block dots say of moved weights and a moved activation block, refusals and all. Assumes nothing.
+use mathlib.Core.Path.{_≡_, refl, sym, ap, fun-ext, _∙_}
+use mathlib.Core.Bool.{Bool, true, false}
+use mathlib.Core.List.{List}
+use Prim.Native.Nat.{ℕ, _+_, _*_, _/_, _≤_, _<_, min}
+use native.Mathlib.Nat.{mul-zero, zero-mul, one-mul, zero-add}
+use native.Mathlib.Omega.{arith}
+use borrow.Author.Tests.{ltb-false}
+use lib.Dec.{ltb, lit<}
+use lib.IntN.{pos}
+use lib.ListN.{length, getD, take}
+use lib.Ieee.{Float}
+use Rattle.refusals.specs.declared.Refusal.{Refusal}
+use Rattle.refusals.specs.Said.{Said, value}
+use Rattle.refusals.specs.Refusals.{given}
+use Rattle.memory.proofs.Filled.{getD-table}
+use Rattle.layouts.specs.Formats.{bytesK}
+use Rattle.layouts.specs.Weights.{block}
+use Rattle.layouts.specs.declared.format.Format.the-variants.{OfK}
+use Rattle.layouts.specs.declared.format.FormatK.{FormatK}
+use Rattle.dots_activation.specs.declared.block.Q8Block.{Q8Block}
+use Rattle.dots_activation.specs.Whole.{elem}
+use Rattle.dots_integer.specs.Dots.{dotWith, sumsServe, blockDotSays}
+use Rattle.dots_rearranged.specs.Orders.{from}
+use Rattle.dots_rearranged.specs.Moved.{run, Rearrangements, ofBlock, movedWeights, movedBlock}
+use Rattle.dots_rearranged.specs.Laws.{Moved}
+use Rattle.dots_rearranged.proofs.Dots.{serve-kept, dot-kept}
+use Rattle.dots_rearranged.proofs.Weights.{weights-long, weights-moved}
+
+-- two answers to one check: the same, where what comes later is
+pub given-same : {A : Type 0} (why : Refusal) (fails : Bool) {a b : Said A} → (fails ≡ false → a ≡ b) → given why fails a ≡ given why fails b
+unfolding given
+given-same why true h = refl
+given-same why false h = h refl
+
+module _ (f : FormatK) (orders : ℕ → List ℕ) (each : Rearrangements f orders) (b : Q8Block) where
+  quants-at : (i : ℕ) → i < 256 → elem (movedBlock f orders b .qs) i ≡ elem (b .qs) (from (run f) orders i)
+  unfolding movedBlock
+  quants-at i h = getD-table (λ k. elem (b .qs) (from (run f) orders k)) 256 i (pos 0) h
+
+  pub served : sumsServe f (movedBlock f orders b .qs) (movedBlock f orders b .bsums) ≡ sumsServe f (b .qs) (b .bsums)
+  unfolding movedBlock
+  served = serve-kept f orders each (b .qs) (movedBlock f orders b .qs) quants-at (b .bsums)
+
+  -- over all 256 places
+  pub with-moved : (bs bs′ : List ℕ) → Moved f (from (run f) orders) bs bs′ → dotWith f bs′ (movedBlock f orders b) 256 ≡ dotWith f bs b 256
+  unfolding movedBlock
+  with-moved bs bs′ block = dot-kept f orders each (b .qs) (movedBlock f orders b .qs) quants-at bs bs′ block (b .d) (b .bsums)
+
+-- the first block's runs are the first runs
+first-runs : (f : FormatK) (orders : ℕ → List ℕ) → ofBlock f orders 0 ≡ orders
+first-runs f orders = fun-ext (λ r. rw (mul-zero (256 / run f), zero-add r))
+
+first-block : (f : FormatK) (w : List ℕ) → block (OfK f) w 0 ≡ take (bytesK f) w
+first-block f w = rw (zero-mul (bytesK f))
+
+-- THE BLOCK DOTS: of any bytes and any activation block, where n takes in all places
+pub block-dots : (f : FormatK) (orders : ℕ → List ℕ) → Rearrangements f orders → (w : List ℕ) (b : Q8Block) (n : ℕ) → 256 ≤ n
+    → blockDotSays f (movedWeights f orders 1 w) (movedBlock f orders b) n ≡ blockDotSays f w b n
+unfolding blockDotSays
+block-dots f orders each w b n full =
+    let most : min n 256 ≡ 256 = omega arith in
+    rw (weights-long f orders 1 w, served f orders each b, most) (given-same _ _ (λ e. given-same _ _ (λ s. ap value (first (ltb-false (length w) (bytesK f) e)))))
+  where
+    first : bytesK f ≤ length w → dotWith f (take (bytesK f) (movedWeights f orders 1 w)) (movedBlock f orders b) 256 ≡ dotWith f (take (bytesK f) w) b 256
+    first h =
+        rw (← first-block f (movedWeights f orders 1 w), ← first-block f w)
+        (with-moved f orders each b (block (OfK f) w 0) (block (OfK f) (movedWeights f orders 1 w) 0)
+        (rw (first-runs f orders) at (weights-moved f orders 1 w each 0 (lit< tt) (rw one-mul h))))

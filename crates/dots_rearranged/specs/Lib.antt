@@ -1,0 +1,4 @@
+-- The order inside a sub-block or run does not matter for the integer dots.
+pub mod Orders
+pub mod Moved
+pub mod Laws
