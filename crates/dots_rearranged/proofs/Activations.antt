@@ -94,3 +94,12 @@ module _ (f : FormatK) (orders : ℕ → List ℕ) (m : ℕ) (x : List Float) wh
     readings-moved =
         block-moved f (ofBlock f orders b) each-in (part x (256 * b) 256) (part (movedReadings f orders m x) (256 * b) 256) (in-part x refl) (in-part (movedReadings f orders m x) readings-long) reading-moved
         (λ i l. rw (part-at x (256 * b) 256 i nan l) (single .single (256 * b + i)))
+
+-- ---- 256 readings
+
+pub activations : (f : FormatK) (orders : ℕ → List ℕ) → Rearrangements f orders → (x : List Float) → Singles x → length x ≡ 256 → blockOf (movedReadings f orders 1 x) ≡ movedBlock f orders (blockOf x)
+unfolding movedReadings
+activations f orders each x single long =
+    block-moved f orders each x (movedReadings f orders 1 x) long (readings-long f orders 1 x ∙ long)
+    (λ i h. getD-table (readingAt f orders 1 x) (length x) i nan (omega arith) ∙ rw (lt-ltb i (256 * 1) (omega arith)))
+    (λ i h. single .single i)

@@ -27,6 +27,10 @@ use Rattle.dots_rearranged.specs.Moved.{run, Rearrangements, ofBlock, mo
 pub record Singles (x : List Float) : Type 0 where
   pub single : (i : ℕ) → T (fits binary32 (getD x i nan))
 
+-- each is a byte
+pub record Bytes (bs : List ℕ) : Type 0 where
+  pub byte : (i : ℕ) → getD bs i 0 < 256
+
 -- What of a packed block bs′ is as the block bs was moved: place i has the quant that stood at `place i`, and scales,
 -- d and, where a format has them, minimums and dmin are those of bs.
 pub record Moved (f : FormatK) (place : ℕ → ℕ) (bs bs′ : List ℕ) : Type 0 where
@@ -42,7 +46,9 @@ pub record OrderLaw (f : FormatK) (orders : ℕ → List ℕ) : Type 0 where
   -- of m whole blocks of weights each has exactly the moved quants, and all else of it is kept
   pub blocks : (w : List ℕ) (m b : ℕ) → b < m → m * bytesK f ≤ length w
       → Moved f (from (run f) (ofBlock f orders b)) (block (OfK f) w b) (block (OfK f) (movedWeights f orders m w) b)
-  -- the block dots, of any bytes and any activation block, where n takes in all 256 places
+  -- moved bytes are bytes
+  pub bytes : (w : List ℕ) (m : ℕ) → Bytes w → Bytes (movedWeights f orders m w)
+  -- the block dots, of any weights and any activation block, where n takes in all 256 places
   pub block-dots : (w : List ℕ) (b : Q8Block) (n : ℕ) → 256 ≤ n
       → blockDotSays f (movedWeights f orders 1 w) (movedBlock f orders b) n ≡ blockDotSays f w b n
   -- 256 readings that are moved before they are quantised have their quants moved, and the same scale and sums
