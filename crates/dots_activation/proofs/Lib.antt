@@ -6,4 +6,5 @@ pub mod Loops
 pub mod Sixteen
 pub mod Pairs
 pub mod Zeros
+pub mod Past
 pub mod Unique

@@ -1,8 +1,8 @@
--- Document 01, "Readings to small integers": the activation block. Definitions only.
-use Prim.Native.Nat.{ℕ, _+_, _*_, _<_}
-use mathlib.Core.Bool.{Bool, cond}
+-- Document 01, "Readings to small integers", and document 02, P9: the activation block. Definitions only.
+use Prim.Native.Nat.{ℕ, _+_, _*_, _<_, min}
+use mathlib.Core.Bool.{Bool, true, false, cond}
 use mathlib.Core.List.{List}
-use lib.Dec.{ltb}
+use lib.Dec.{ltb, eqb}
 use lib.IntN.{ℤ, pos}
 use lib.ListN.{getD, length, replicate}
 use lib.Ieee.{Float, nan, binary32, mul}
@@ -31,17 +31,18 @@ sumOf32 qs j = sumℤ (λ (l : ℕ). elem qs (32 * j + l)) 32
 abbrev pub sumsOf : List ℤ → List ℤ
 sumsOf qs = table (sumOf32 qs) 8
 
--- An activation block has one float scale, 256 signed quants and eight sums of 32: the block of these three ..
-abbrev pub blockIn : Float → List ℤ → List ℤ → Q8Block
-blockIn d qs bsums = record { d = d; qs = qs; bsums = bsums }
+-- An activation block has one float scale, 256 signed quants, eight sums of 32 and the count of its readings: the
+-- block of these four ..
+abbrev pub blockIn : Float → List ℤ → List ℤ → ℕ → Q8Block
+blockIn d qs bsums count = record { d = d; qs = qs; bsums = bsums; count = count }
 
--- .. of a scale and its quants ..
-abbrev pub blockWith : Float → List ℤ → Q8Block
-blockWith d qs = blockIn d qs (sumsOf qs)
+-- .. of a scale, quants and a count ..
+abbrev pub blockWith : Float → List ℤ → ℕ → Q8Block
+blockWith d qs count = blockIn d qs (sumsOf qs) count
 
 -- .. and of at most 256 readings.
 unfoldable pub blockOf : List Float → Q8Block
-blockOf xs = blockWith (scaleQ8 xs) (quantsOf xs)
+blockOf xs = blockWith (scaleQ8 xs) (quantsOf xs) (length xs)
 
 -- `quantize_block_q8`: 4 for more than 256 readings; and otherwise the block
 unfoldable pub blockSays : List Float → Said Q8Block
@@ -54,7 +55,20 @@ quantizedSays r = orElse (checkSays (r .checked)) (value (r .block))
 -- the block that is answered: beside a refusal it has nothing but zeros
 abbrev pub blockSaid : Said Q8Block → Q8Block
 blockSaid (value b) = b
-blockSaid (refused why) = blockIn nought (replicate 256 (pos 0)) (replicate 8 (pos 0))
+blockSaid (refused why) = blockIn nought (replicate 256 (pos 0)) (replicate 8 (pos 0)) 0
+
+-- place i is below n, or its quant is 0
+abbrev pub pastIsZero : List ℤ → ℕ → ℕ → Bool
+pastIsZero qs n i = cond (ltb i n) true (eqZ (elem qs i) (pos 0))
+
+-- every quant from n on is 0
+abbrev pub zerosPast : List ℤ → ℕ → Bool
+zerosPast qs n = every (pastIsZero qs n) 256
+
+-- A block of `count` readings serves n places, n above 256 taken as 256, where n is that count and every quant past it
+-- is 0. A count above 256 serves none.
+unfoldable pub countServes : List ℤ → ℕ → ℕ → Bool
+countServes qs count n = cond (eqb (min n 256) count) (zerosPast qs count) false
 
 -- sum j is the sum of its 32 quants
 abbrev pub rightAt : List ℤ → List ℤ → ℕ → Bool

@@ -1,4 +1,5 @@
-// The activation block: how it is made of readings, and whether its sums are the sums of its 32s.
+// The activation block: how it is made of readings, whether it is of n of them, and whether its sums are the sums of
+// its 32s.
 use refusals::Check;
 ghost use mathlib.Core.Path.{_≡_};
 ghost use Prim.Native.Nat.{_+_, _≤_, _<_};
@@ -8,14 +9,16 @@ ghost use lib.ListN.{length};
 ghost use Rattle.memory.specs.Lists.{table};
 ghost use Rattle.dots_activation.specs.Whole.{elem, Within};
 ghost use Rattle.dots_activation.specs.Inner.{pairOf, PairsWithin, sumOfPairs};
-ghost use Rattle.dots_activation.specs.Blocks.{quantAt, sumsOf, sumsRight, SmallSums};
+ghost use Rattle.dots_activation.specs.Blocks.{quantAt, sumsOf, zerosPast, countServes, sumsRight, SmallSums};
 ghost use Rattle.dots_activation.specs.Blocks.{blockWith, blockOf, blockSays, quantizedSays, blockSaid};
 
-// One float scale, 256 signed quants and eight sums of 32. It is made by `block_with` and read by the block dots.
+// One float scale, 256 signed quants, eight sums of 32, and how many readings it was made of. It is made by
+// `block_with` and read by the block dots.
 pub struct Q8Block {
     pub d: f32,
     pub qs: [i8; 256],
     pub bsums: [i32; 8],
+    pub count: usize,
 }
 
 // What the quantizer of a block answers: the block, or why it says no beside a block of zeros, since an enum cannot
@@ -91,6 +94,31 @@ pub fn sums_right(qs: &[i8; 256], bsums: &[i32; 8]) -> bool
     true
 }
 
+// Whether every quant from n on is 0. All are looked at, a vector at a time.
+fn zeros_past(qs: &[i8; 256], n: usize) -> bool
+    requires { ⌜ n ≤ 256 ⌝ }
+    ensures { λ r. ⌜ r ≡ zerosPast (now (qs .entry)) n ⌝ }
+{
+    let mut zeros = true;
+    for i in n..256usize {
+        if qs[i] != 0 {
+            zeros = false;
+        }
+    }
+    zeros
+}
+
+// Whether a block of `count` readings serves n places, n above 256 taken as 256: of a full block no quant is looked at.
+pub fn count_serves(qs: &[i8; 256], count: usize, n: usize) -> bool
+    ensures { λ r. ⌜ r ≡ countServes (now (qs .entry)) count n ⌝ }
+{
+    let places = if n > 256 { 256 } else { n };
+    if places != count {
+        return false;
+    }
+    zeros_past(qs, count)
+}
+
 // The quants of the readings, and 0 past them.
 fn quants_of(x: &[f32], inverse: f32) -> [i8; 256]
     requires { ⌜ length (now x) ≤ 256 ⌝ }
@@ -103,12 +131,17 @@ fn quants_of(x: &[f32], inverse: f32) -> [i8; 256]
     qs
 }
 
-// The block of a scale and its quants: every block but that of a refusal is made here.
-fn block_with(d: f32, qs: [i8; 256]) -> Q8Block
-    ensures { λ r. ⌜ r ≡ blockWith d qs ⌝ }
+// The block of a scale, quants and a count: every block but that of a refusal is made here.
+fn block_with(d: f32, qs: [i8; 256], count: usize) -> Q8Block
+    ensures { λ r. ⌜ r ≡ blockWith d qs count ⌝ }
 {
     let bsums = sums_of(&qs);
-    Q8Block { d, qs, bsums }
+    Q8Block {
+        d,
+        qs,
+        bsums,
+        count,
+    }
 }
 
 // The block of at most 256 readings.
@@ -117,7 +150,7 @@ pub fn quantized_block(x: &[f32]) -> Q8Block
     ensures { λ r. ⌜ r ≡ blockOf (now (x .entry)) ⌝ }
 {
     let d = readings::scale_q8(x);
-    block_with(d, quants_of(x, readings::inverse_of(d)))
+    block_with(d, quants_of(x, readings::inverse_of(d)), x.len())
 }
 
 // The block of the readings. Refuses 4 for more than 256 of them.
@@ -130,6 +163,7 @@ pub fn quantize_block_q8(x: &[f32]) -> Quantized
             d: 0.0,
             qs: [0i8; 256],
             bsums: [0i32; 8],
+            count: 0,
         };
         return Quantized {
             checked: Check::Refused(refusals::READINGS_SHORT),

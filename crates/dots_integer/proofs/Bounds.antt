@@ -1,11 +1,11 @@
--- How large the whole numbers are. From our quantizer every quant is within 127, the sums are right and small, A stays within 30,723,840 in Q4_K and 63,495,936 in Q5_K, and B within 133,169,152. Assumes nothing.
+-- How large the whole numbers are. From our quantizer every quant is within 127, the sums are right and small, the count is right, A stays within 30,723,840 in Q4_K and 63,495,936 in Q5_K, and B within 133,169,152. Assumes nothing.
 use mathlib.Core.Path.{_≡_, refl, sym, ap, _∙_, subst}
 use mathlib.Core.Bool.{Bool, true, false, cond, false≢true}
 use mathlib.Core.List.{List}
 use Prim.Native.Nat.{ℕ, suc, _+_, _*_, _-_, _/_, _%_, _^_, _≤_, _<_}
 use native.Mathlib.Nat.{mul-le-mul-right}
 use native.Mathlib.Omega.{arith}
-use borrow.Author.Tests.{ltb-true, ltb-false}
+use borrow.Author.Tests.{le-ltb, ltb-true, ltb-false}
 use lib.Dec.{ltb, lit≤}
 use lib.IntN.{ℤ, pos, negsuc, _-ℤ_}
 use lib.ListN.{getD, length}
@@ -13,7 +13,7 @@ use lib.Ieee.{Float, nan, binary32, ofBits, le, add, mul}
 use mir.Syntax.{w32}
 use mir.Val.{SFits}
 use Rattle.memory.specs.Lists.{table}
-use Rattle.memory.proofs.Filled.{getD-table}
+use Rattle.memory.proofs.Filled.{length-table, getD-table}
 use Rattle.memory.proofs.Every.{every-all}
 use Rattle.numbers.specs.Fields.{signed}
 use Rattle.numbers.specs.Steps.{nought, truncated}
@@ -25,12 +25,13 @@ use Rattle.layouts.specs.declared.format.FormatK.{FormatK}
 use Rattle.layouts.specs.declared.format.FormatK.the-variants.{Q4K, Q5K, Q6K}
 use Rattle.layouts.proofs.Quants.{nibble-small}
 use Rattle.dots_activation.specs.Whole.{elem, eqZ, Within}
-use Rattle.dots_integer.specs.Inner.{FiveBits}
-use Rattle.dots_integer.specs.Dots.{weighedAt, wholeSum}
-use Rattle.dots_activation.specs.Blocks.{quantAt, quantsOf, sumOf32, rightAt, blockOf, sumsRight, SmallSums}
+use Rattle.dots_activation.specs.Blocks.{quantAt, quantsOf, sumOf32, rightAt, blockOf, countServes, sumsRight, SmallSums}
 use Rattle.dots_activation.proofs.Magnitudes.{within, pos-within, mul-within, fits-within}
 use Rattle.dots_activation.proofs.Ranges.{sum-within}
 use Rattle.dots_activation.proofs.Tests.{eqZ-same}
+use Rattle.dots_activation.proofs.Past.{serves}
+use Rattle.dots_whole.specs.Sums.{weighedAt, wholeSum}
+use Rattle.dots_whole.specs.Inner.{FiveBits}
 
 -- ---- a block of our quantizer
 
@@ -59,6 +60,11 @@ quant-within xs inv i = by (ltb i (length xs))
     by false = pos-within (omega arith)
 
 module _ (xs : List Float) where
+  -- it has 256 quants and eight sums, ..
+  pub block-long : (length (blockOf xs .qs) ≡ 256) × (length (blockOf xs .bsums) ≡ 8)
+  unfolding blockOf
+  block-long = (length-table _ 256, length-table _ 8)
+
   pub quants-within : (i : ℕ) → i < 256 → Within 127 (elem (quantsOf xs) i)
   quants-within i h = subst (Within 127) (sym (getD-table (quantAt xs (inverse (scaleQ8 xs))) 256 i (pos 0) h)) (quant-within xs (inverse (scaleQ8 xs)) i)
 
@@ -66,7 +72,7 @@ module _ (xs : List Float) where
   unfolding blockOf
   sum-at j h = getD-table (sumOf32 (quantsOf xs)) 8 j (pos 0) h
 
-  -- its sums are small, ..
+  -- .. its sums are small, ..
   pub small-sums : SmallSums (blockOf xs .bsums)
   small-sums = record {
     near = λ j h. subst (Within 4096) (sym (sum-at j h)) (within (sum-within (λ (l : ℕ). elem (quantsOf xs) (32 * j + l)) 127 32 (λ l p. quants-within (32 * j + l) (omega arith))) (lit≤ tt));
@@ -76,6 +82,18 @@ module _ (xs : List Float) where
   pub sums-right : sumsRight (blockOf xs .qs) (blockOf xs .bsums) ≡ true
   unfolding sumsRight blockOf
   sums-right = every-all (rightAt (blockOf xs .qs) (blockOf xs .bsums)) 8 (λ j h. ap (eqZ (sumOf32 (quantsOf xs) j)) (getD-table (sumOf32 (quantsOf xs)) 8 j (pos 0) h) ∙ eqZ-same (sumOf32 (quantsOf xs) j))
+
+  -- past its readings there are zeros, ..
+  pub quants-past : (i : ℕ) → length xs ≤ i → i < 256 → elem (blockOf xs .qs) i ≡ pos 0
+  unfolding blockOf
+  quants-past i b h =
+      let inv = inverse (scaleQ8 xs) in
+      getD-table (quantAt xs inv) 256 i (pos 0) h ∙ ap (λ (t : Bool). cond t (quantQ8 (mul binary32 (getD xs i nan) inv)) (pos 0)) (le-ltb i (length xs) b)
+
+  -- .. and its count serves as many places as it has readings
+  pub count-right : length xs ≤ 256 → countServes (blockOf xs .qs) (blockOf xs .count) (length xs) ≡ true
+  unfolding blockOf
+  count-right h = serves (quantsOf xs) (length xs) h quants-past
 
 -- ---- a packed block's scales and quants
 

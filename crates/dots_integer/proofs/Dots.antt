@@ -1,18 +1,20 @@
--- A whole-number sum turned to a float and scaled, from what the calls gave, a block whose quants are laid out, and one whose quants are cut. Assumes nothing.
-use mathlib.Core.Path.{_≡_, ap, _∙_}
-use mathlib.Core.Bool.{cond}
+-- A whole-number sum turned to a float and scaled, from what the calls gave, a block whose quants are laid out, and one whose quants are 0 from some place on. Assumes nothing.
+use mathlib.Core.Path.{_≡_, sym, ap, _∙_, subst}
+use mathlib.Core.Bool.{true}
 use mathlib.Core.List.{List}
-use Prim.Native.Nat.{ℕ, _≤_, _<_}
-use lib.Dec.{ltb}
+use Prim.Native.Nat.{ℕ, _≤_, _<_, min}
+use native.Mathlib.Omega.{arith}
 use lib.IntN.{ℤ, pos}
 use lib.Ieee.{Float, binary32, mul, sub, ofInt}
-use Rattle.memory.specs.Lists.{table}
 use Rattle.layouts.specs.Formats.{hasMinimums}
 use Rattle.layouts.specs.K.{quantK}
 use Rattle.layouts.specs.declared.format.FormatK.{FormatK}
 use Rattle.dots_activation.specs.Whole.{elem, sumℤ}
-use Rattle.dots_integer.specs.Dots.{weighedAt, scaledSum, scaledDot, blockDot}
-use Rattle.dots_integer.proofs.Runs.{laid-out, cut-sum}
+use Rattle.dots_activation.specs.Blocks.{zerosPast, countServes}
+use Rattle.dots_activation.proofs.Past.{zero-past, serves-are}
+use Rattle.dots_whole.specs.Sums.{weighedAt}
+use Rattle.dots_whole.proofs.Runs.{laid-out, sum-below}
+use Rattle.dots_integer.specs.Dots.{scaledSum, scaledDot, blockDot}
 
 -- h is the scale d, and a the float of s, which is the sum z
 pub scaled-is : {h a d : Float} {s z : ℤ} (dx : Float) → h ≡ d → a ≡ ofInt binary32 s → s ≡ z → mul binary32 (mul binary32 h dx) a ≡ scaledSum d dx z
@@ -31,8 +33,15 @@ pub of-laid-out : (f g : FormatK) (w : List ℕ) (dx : Float) (qs sums : List �
 unfolding blockDot
 of-laid-out f g w dx qs sums q e W = ap (scaledDot f w dx sums) (laid-out f w q qs g (quantK g w) e W) ∙ same-dot f g w dx sums _ e
 
--- over all places of the quants below n, and 0 from there on: the dot over the places below n
-pub cut-dot : (f : FormatK) (w : List ℕ) (dx : Float) (qs below sums : List ℤ) (n : ℕ) → n ≤ 256 → below ≡ table (λ i. cond (ltb i n) (elem qs i) (pos 0)) 256
-    → blockDot f w dx below sums 256 ≡ blockDot f w dx qs sums n
+-- quants that are 0 from n on: the dot over all places is the dot over those below n
+pub dot-below : (f : FormatK) (w : List ℕ) (dx : Float) (qs sums : List ℤ) (n : ℕ) → n ≤ 256 → ((i : ℕ) → n ≤ i → i < 256 → elem qs i ≡ pos 0)
+    → blockDot f w dx qs sums 256 ≡ blockDot f w dx qs sums n
 unfolding blockDot
-cut-dot f w dx qs below sums n h e = ap (scaledDot f w dx sums) (cut-sum f w (quantK f w) qs below n h e)
+dot-below f w dx qs sums n h z = ap (scaledDot f w dx sums) (sum-below f w (quantK f w) qs n h z)
+
+-- a block that serves n places: its dot over all places is the dot over those below n
+pub served-below : (f : FormatK) (w : List ℕ) (dx : Float) (qs sums : List ℤ) (count n : ℕ) → countServes qs count n ≡ true
+    → blockDot f w dx qs sums 256 ≡ blockDot f w dx qs sums (min n 256)
+served-below f w dx qs sums count n s =
+    let t = serves-are qs count n s in
+    dot-below f w dx qs sums (min n 256) (omega arith) (zero-past qs (min n 256) (subst (λ (k : ℕ). zerosPast qs k ≡ true) (sym (t .0)) (t .1)))

@@ -1,6 +1,5 @@
 -- What several proofs of `dots_integer` share.
-pub mod Runs
-pub mod Lanes
 pub mod Dots
 pub mod Bounds
+pub mod Answered
 pub mod Unique

@@ -1,32 +1,21 @@
--- Document 01, "Readings to small integers": the dot of a packed block and an activation block. Definitions only.
+-- Document 01, "Readings to small integers", and document 02, P9: the dot of a packed block and an activation block.
+-- Definitions only.
 use Prim.Native.Nat.{ℕ, min}
 use mathlib.Core.Bool.{Bool, true, not, cond}
 use mathlib.Core.List.{List}
 use lib.Dec.{ltb}
-use lib.IntN.{ℤ, pos, _*ℤ_}
+use lib.IntN.{ℤ}
 use lib.ListN.{length, take}
 use lib.Ieee.{Float, binary32, mul, sub, ofInt}
 use Rattle.refusals.specs.Said.{Said, value, no}
 use Rattle.refusals.specs.Refusals.{given}
 use Rattle.layouts.specs.Formats.{bytesK, hasMinimums}
 use Rattle.layouts.specs.Counts.{weightsShort}
-use Rattle.layouts.specs.K.{quantK, scaleK, minimumQ4K, dOf, dminOf}
+use Rattle.layouts.specs.K.{dOf, dminOf}
 use Rattle.layouts.specs.declared.format.FormatK.{FormatK}
 use Rattle.dots_activation.specs.declared.block.Q8Block.{Q8Block}
-use Rattle.dots_activation.specs.Whole.{elem, sumℤ}
-use Rattle.dots_activation.specs.Blocks.{sumsRight}
-
--- scale times q times activation quant at place i
-abbrev pub weighedAt : FormatK → List ℕ → (ℕ → ℤ) → List ℤ → ℕ → ℤ
-weighedAt f w q qs i = scaleK f w i *ℤ (q i *ℤ elem qs i)
-
--- A and B: the sum of scale times q times activation quant over the places below n
-abbrev pub wholeSum : FormatK → List ℕ → List ℤ → ℕ → ℤ
-wholeSum f w qs n = sumℤ (weighedAt f w (quantK f w) qs) n
-
--- M uses all eight sums
-abbrev pub minimumSum : List ℕ → List ℤ → ℤ
-minimumSum w sums = sumℤ (λ (j : ℕ). pos (minimumQ4K w j) *ℤ elem sums j) 8
+use Rattle.dots_activation.specs.Blocks.{countServes, sumsRight}
+use Rattle.dots_whole.specs.Sums.{wholeSum, minimumSum}
 
 -- (d*dx) times a whole-number sum
 abbrev pub scaledSum : Float → Float → ℤ → Float
@@ -50,11 +39,12 @@ dotWith f w b n = blockDot f w (b .d) (b .qs) (b .bsums) n
 abbrev pub sumsServe : FormatK → List ℤ → List ℤ → Bool
 sumsServe f qs sums = cond (hasMinimums f) (sumsRight qs sums) true
 
--- `dot_q4k_q8_block`, `dot_q5k_q8_block`, `dot_q6k_q8_block`: fewer weights than needed; sums that aren't the sums of
--- their 32s; and otherwise its formula, also at n = 0. A block dot needs one whole block and takes n above 256 as 256;
--- surplus weights are ignored.
+-- `dot_q4k_q8_block`, `dot_q5k_q8_block`, `dot_q6k_q8_block`: fewer weights than needed; a block that isn't of n
+-- readings, or has a quant past them; sums that aren't the sums of their 32s; and otherwise its formula, also at n = 0.
+-- A block dot needs one whole block and takes n above 256 as 256; surplus weights are ignored.
 unfoldable pub blockDotSays : FormatK → List ℕ → Q8Block → ℕ → Said Float
 blockDotSays f w b n =
     given (weightsShort f (length w) 1) (ltb (length w) (bytesK f))
+    (given (no 15) (not (countServes (b .qs) (b .count) n))
     (given (no 7) (not (sumsServe f (b .qs) (b .bsums)))
-    (value (dotWith f (take (bytesK f) w) b (min n 256))))
+    (value (dotWith f (take (bytesK f) w) b (min n 256)))))

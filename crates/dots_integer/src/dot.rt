@@ -1,10 +1,10 @@
 // The dot of one packed block and one activation block.
-use crate::whole::cut;
-use crate::whole::minimum_sum;
-use crate::whole::sum_by_runs;
-use crate::whole::sum_by_sub_blocks;
 use dots_activation::Q8Block;
+use dots_activation::count_serves;
 use dots_activation::sums_right;
+use dots_whole::minimum_sum;
+use dots_whole::sum_by_runs;
+use dots_whole::sum_by_sub_blocks;
 use layouts::Format;
 use layouts::FormatK;
 use refusals::Answer;
@@ -20,8 +20,9 @@ ghost use Rattle.layouts.specs.Formats.{bytesK, hasMinimums};
 ghost use Rattle.layouts.specs.K.{dOf};
 ghost use Rattle.dots_activation.specs.Whole.{elem, sumℤ};
 ghost use Rattle.dots_activation.specs.Blocks.{SmallSums, blockIn};
-ghost use Rattle.dots_integer.specs.Inner.{FiveBits};
-ghost use Rattle.dots_integer.specs.Dots.{weighedAt, scaledSum, scaledDot, blockDot};
+ghost use Rattle.dots_whole.specs.Sums.{weighedAt};
+ghost use Rattle.dots_whole.specs.Inner.{FiveBits};
+ghost use Rattle.dots_integer.specs.Dots.{scaledSum, scaledDot, blockDot};
 ghost use Rattle.dots_integer.specs.Dots.{sumsServe, blockDotSays};
 
 // The f16 field at i.
@@ -80,26 +81,6 @@ pub fn block_dot(format: FormatK, w: &[u8], d: f32, qs: &[i8], sums: &[i32]) -> 
     }
 }
 
-// The same over the places below n, n above 256 taken as 256. Only a block that ends within is cut.
-pub fn block_dot_below(
-    format: FormatK,
-    w: &[u8],
-    d: f32,
-    qs: &[i8; 256],
-    sums: &[i32; 8],
-    n: usize,
-) -> f32
-    requires { ⌜ (length (now w) ≡ bytesK format) × (hasMinimums format ≡ true → SmallSums (now sums)) ⌝ }
-    ensures { λ r. ⌜ r ≡ blockDot format (now (w .entry)) d (now (qs .entry)) (now (sums .entry)) (min n 256) ⌝ }
-{
-    if n >= 256 {
-        return block_dot(format, w, d, qs, sums);
-    }
-    let all = *qs;
-    let below = cut(all, n);
-    block_dot(format, w, d, &below, sums)
-}
-
 // Whether the sums serve the format: one without minimums looks at no sums.
 fn sums_serve(format: FormatK, qs: &[i8; 256], sums: &[i32; 8]) -> bool
     ensures { λ r. ⌜ (r ≡ sumsServe format (now (qs .entry)) (now (sums .entry)))
@@ -111,49 +92,54 @@ fn sums_serve(format: FormatK, qs: &[i8; 256], sums: &[i32; 8]) -> bool
     }
 }
 
-// The dot of the first block of w and an activation block, n above 256 taken as 256. Refuses 3 and 7, in this order.
-// The block's quants and sums are lent: a block by value would be copied.
+// The dot of the first block of w and an activation block, n above 256 taken as 256. Refuses 3, 15 and 7, in this
+// order. Past n every quant is 0 then, so that the dot over all places is the dot over those below n. The block's
+// quants and sums are lent: a block by value would be copied.
 pub fn first_dot(
     format: FormatK,
     w: &[u8],
     d: f32,
     qs: &[i8; 256],
     sums: &[i32; 8],
+    count: usize,
     n: usize,
 ) -> Answer
     ensures { λ r. ⌜ saidBy r
-        ≡ blockDotSays format (now (w .entry)) (blockIn d (now (qs .entry)) (now (sums .entry))) n ⌝ }
+        ≡ blockDotSays format (now (w .entry)) (blockIn d (now (qs .entry)) (now (sums .entry)) count) n ⌝ }
 {
     let size = layouts::block_bytes(Format::OfK(format));
     if w.len() < size {
         return Answer::Refused(layouts::weights_short(format, w.len(), 1));
     }
+    if !count_serves(qs, count, n) {
+        return Answer::Refused(refusals::WRONG_COUNT);
+    }
     if !sums_serve(format, qs, sums) {
         return Answer::Refused(refusals::WRONG_SUMS);
     }
-    Answer::Value(block_dot_below(format, &w[..size], d, qs, sums, n))
+    Answer::Value(block_dot(format, &w[..size], d, qs, sums))
 }
 
-// The dot of a Q4_K block and an activation block. Refuses 3 and 7, in this order.
+// The dot of a Q4_K block and an activation block. Refuses 3, 15 and 7, in this order.
 pub fn dot_q4k_q8_block(w: &[u8], xq: Q8Block, n: usize) -> Answer
     ensures { λ r. ⌜ saidBy r ≡ blockDotSays FormatK.Q4K (now (w .entry)) xq n ⌝ }
 {
     let sums = xq.bsums;
-    first_dot(FormatK::Q4K, w, xq.d, &xq.qs, &sums, n)
+    first_dot(FormatK::Q4K, w, xq.d, &xq.qs, &sums, xq.count, n)
 }
 
-// The dot of a Q5_K block and an activation block. Refuses 3 and 7, in this order.
+// The dot of a Q5_K block and an activation block. Refuses 3, 15 and 7, in this order.
 pub fn dot_q5k_q8_block(w: &[u8], xq: Q8Block, n: usize) -> Answer
     ensures { λ r. ⌜ saidBy r ≡ blockDotSays FormatK.Q5K (now (w .entry)) xq n ⌝ }
 {
     let sums = xq.bsums;
-    first_dot(FormatK::Q5K, w, xq.d, &xq.qs, &sums, n)
+    first_dot(FormatK::Q5K, w, xq.d, &xq.qs, &sums, xq.count, n)
 }
 
-// The dot of a Q6_K block and an activation block. Refuses 3.
+// The dot of a Q6_K block and an activation block. Refuses 3 and 15, in this order.
 pub fn dot_q6k_q8_block(w: &[u8], xq: Q8Block, n: usize) -> Answer
     ensures { λ r. ⌜ saidBy r ≡ blockDotSays FormatK.Q6K (now (w .entry)) xq n ⌝ }
 {
     let sums = xq.bsums;
-    first_dot(FormatK::Q6K, w, xq.d, &xq.qs, &sums, n)
+    first_dot(FormatK::Q6K, w, xq.d, &xq.qs, &sums, xq.count, n)
 }

@@ -1,6 +1,6 @@
 // The dot of a row of packed blocks and readings, in whole numbers block by block.
 use dots_activation::quantized_block;
-use dots_integer::block_dot_below;
+use dots_integer::block_dot;
 use layouts::Format;
 use layouts::FormatK;
 use layouts::blocks_in;
@@ -26,7 +26,8 @@ fn block_end(n: usize, b: usize) -> usize
     if n - s > 256 { s + 256 } else { n }
 }
 
-// The dot of the first n places: the dots of the blocks meet in the tree.
+// The dot of the first n places: the dots of the blocks meet in the tree. Past the readings of the last block its
+// quants are 0, and add nothing.
 fn integer_row(format: FormatK, x: &[f32], w: &[u8], n: usize) -> f32
     requires { ⌜ (n ≤ mostIn) × (n ≤ length (now x)) × (stretchesIn 256 n * bytesK format ≤ length (now w)) ⌝ }
     ensures { λ r. ⌜ r ≡ integerRow format (now (x .entry)) (now (w .entry)) n ⌝ }
@@ -42,7 +43,7 @@ fn integer_row(format: FormatK, x: &[f32], w: &[u8], n: usize) -> f32
         let to = from + size;
         let block = quantized_block(&x[s..e]);
         let sums = block.bsums;
-        dots[b] = block_dot_below(format, &w[from..to], block.d, &block.qs, &sums, e - s);
+        dots[b] = block_dot(format, &w[from..to], block.d, &block.qs, &sums);
         b += 1;
     }
     sums_tree::canonical_combine(&mut dots[..blocks])

@@ -10,16 +10,11 @@ use lib.ListN.{length, getD, take, drop, set, replicate, length-replicate}
 use lib.Seq.{getD-set-same, getD-set-other}
 use lib.Ieee.{Float, nan}
 use Rattle.memory.specs.Lists.{part}
-use Rattle.memory.proofs.Filled.{length-table}
 use Rattle.memory.proofs.Laid.{part-before, part-laid}
 use Rattle.dots_activation.specs.declared.block.Q8Block.{Q8Block}
 use Rattle.dots_activation.specs.Blocks.{blockOf, SmallSums}
-use Rattle.dots_integer.proofs.Bounds.{small-sums}
+use Rattle.dots_integer.proofs.Bounds.{block-long, small-sums}
 use Rattle.dots_kept_row.specs.Inner.{KeptRoom, KeptRow, KeptOf, Keeps}
-
-pub block-long : (x : List Float) → (length (blockOf x .qs) ≡ 256) × (length (blockOf x .bsums) ≡ 8)
-unfolding blockOf
-block-long x = (length-table _ 256, length-table _ 8)
 
 -- ---- one block a turn
 

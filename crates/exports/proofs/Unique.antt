@@ -106,17 +106,17 @@ canonical-dot-pub-once κs a x y s t h k = both h k
 pub canonical-sum-pub-once : OneCall canonical-sum-pub.Post (λ κs s. now (s .1 .1 .0))
 canonical-sum-pub-once κs a x y s t h k = both h k
 
--- the number, and the block that is left in the three places
-pub quantize-block-q8-once : OneCall quantize-block-q8.Post (λ κs s. blockIn (now (s .1 .0)) (now (s .1 .1 .0)) (now (s .1 .1 .1 .0)))
+-- the number, and the block that is left in the four places
+pub quantize-block-q8-once : OneCall quantize-block-q8.Post (λ κs s. blockIn (now (s .1 .0)) (now (s .1 .1 .0)) (now (s .1 .1 .1 .0)) (now (s .1 .1 .1 .1 .0)))
 quantize-block-q8-once κs a x y s t h k = both h k
 
-pub dot-q4k-q8-block-once : OneCall {M = Float × List ℕ} dot-q4k-q8-block.Post (λ κs s. (now (s .1 .1 .1 .1 .1 .0), now (s .1 .1 .1 .1 .1 .1 .0)))
+pub dot-q4k-q8-block-once : OneCall {M = Float × List ℕ} dot-q4k-q8-block.Post (λ κs s. (now (s .1 .1 .1 .1 .1 .1 .0), now (s .1 .1 .1 .1 .1 .1 .1 .0)))
 dot-q4k-q8-block-once κs a x y s t h k = both h k
 
-pub dot-q5k-q8-block-once : OneCall {M = Float × List ℕ} dot-q5k-q8-block.Post (λ κs s. (now (s .1 .1 .1 .1 .1 .0), now (s .1 .1 .1 .1 .1 .1 .0)))
+pub dot-q5k-q8-block-once : OneCall {M = Float × List ℕ} dot-q5k-q8-block.Post (λ κs s. (now (s .1 .1 .1 .1 .1 .1 .0), now (s .1 .1 .1 .1 .1 .1 .1 .0)))
 dot-q5k-q8-block-once κs a x y s t h k = both h k
 
-pub dot-q6k-q8-block-once : OneCall {M = Float × List ℕ} dot-q6k-q8-block.Post (λ κs s. (now (s .1 .1 .1 .1 .1 .0), now (s .1 .1 .1 .1 .1 .1 .0)))
+pub dot-q6k-q8-block-once : OneCall {M = Float × List ℕ} dot-q6k-q8-block.Post (λ κs s. (now (s .1 .1 .1 .1 .1 .1 .0), now (s .1 .1 .1 .1 .1 .1 .1 .0)))
 dot-q6k-q8-block-once κs a x y s t h k = both h k
 
 pub integer-dot-q4k-once : OneCall {M = Float × List ℕ} integer-dot-q4k.Post (λ κs s. (now (s .1 .1 .1 .0), now (s .1 .1 .1 .1 .0)))

@@ -15,12 +15,13 @@ pub extern "C" fn jambharrow_quantize_block_q8(
     d: &mut f32,
     qs: &mut [i8; 256],
     bsums: &mut [i32; 8],
+    count: &mut usize,
 ) -> u32
-    ensures { λ r. ⌜ (r, blockIn (now (d .exit)) (now (qs .exit)) (now (bsums .exit)))
+    ensures { λ r. ⌜ (r, blockIn (now (d .exit)) (now (qs .exit)) (now (bsums .exit)) (now (count .exit)))
         ≡ laidOut (blockSays (now (x .entry)))
-        (blockIn (now (d .entry)) (now (qs .entry)) (now (bsums .entry))) ⌝ }
+        (blockIn (now (d .entry)) (now (qs .entry)) (now (bsums .entry)) (now (count .entry))) ⌝ }
 {
-    lay_out_block(dots_activation::quantize_block_q8(x), d, qs, bsums)
+    lay_out_block(dots_activation::quantize_block_q8(x), d, qs, bsums, count)
 }
 
 // `dots_integer::dot_q4k_q8_block`, for C.
@@ -30,16 +31,18 @@ pub extern "C" fn jambharrow_dot_q4k_q8_block(
     d: f32,
     qs: &[i8; 256],
     bsums: &[i32; 8],
+    count: usize,
     n: usize,
     value: &mut f32,
     blocks: &mut [usize; 2],
 ) -> u32
     ensures { λ r. ⌜ (r, (now (value .exit), now (blocks .exit)))
-        ≡ laidOutBlocks (blockDotSays FormatK.Q4K (now (w .entry)) (blockIn d (now (qs .entry)) (now (bsums .entry))) n)
+        ≡ laidOutBlocks (blockDotSays FormatK.Q4K (now (w .entry))
+        (blockIn d (now (qs .entry)) (now (bsums .entry)) count) n)
         (now (value .entry)) (now (blocks .entry)) ⌝ }
 {
     lay_out_and_blocks(
-        dots_integer::first_dot(FormatK::Q4K, w, d, qs, bsums, n),
+        dots_integer::first_dot(FormatK::Q4K, w, d, qs, bsums, count, n),
         value,
         blocks,
     )
@@ -52,16 +55,18 @@ pub extern "C" fn jambharrow_dot_q5k_q8_block(
     d: f32,
     qs: &[i8; 256],
     bsums: &[i32; 8],
+    count: usize,
     n: usize,
     value: &mut f32,
     blocks: &mut [usize; 2],
 ) -> u32
     ensures { λ r. ⌜ (r, (now (value .exit), now (blocks .exit)))
-        ≡ laidOutBlocks (blockDotSays FormatK.Q5K (now (w .entry)) (blockIn d (now (qs .entry)) (now (bsums .entry))) n)
+        ≡ laidOutBlocks (blockDotSays FormatK.Q5K (now (w .entry))
+        (blockIn d (now (qs .entry)) (now (bsums .entry)) count) n)
         (now (value .entry)) (now (blocks .entry)) ⌝ }
 {
     lay_out_and_blocks(
-        dots_integer::first_dot(FormatK::Q5K, w, d, qs, bsums, n),
+        dots_integer::first_dot(FormatK::Q5K, w, d, qs, bsums, count, n),
         value,
         blocks,
     )
@@ -74,16 +79,18 @@ pub extern "C" fn jambharrow_dot_q6k_q8_block(
     d: f32,
     qs: &[i8; 256],
     bsums: &[i32; 8],
+    count: usize,
     n: usize,
     value: &mut f32,
     blocks: &mut [usize; 2],
 ) -> u32
     ensures { λ r. ⌜ (r, (now (value .exit), now (blocks .exit)))
-        ≡ laidOutBlocks (blockDotSays FormatK.Q6K (now (w .entry)) (blockIn d (now (qs .entry)) (now (bsums .entry))) n)
+        ≡ laidOutBlocks (blockDotSays FormatK.Q6K (now (w .entry))
+        (blockIn d (now (qs .entry)) (now (bsums .entry)) count) n)
         (now (value .entry)) (now (blocks .entry)) ⌝ }
 {
     lay_out_and_blocks(
-        dots_integer::first_dot(FormatK::Q6K, w, d, qs, bsums, n),
+        dots_integer::first_dot(FormatK::Q6K, w, d, qs, bsums, count, n),
         value,
         blocks,
     )

@@ -1,6 +1,6 @@
 -- A test that holds at every place, or not. Assumes nothing.
 use mathlib.Core.Path.{_≡_, refl, sym, ap, _∙_}
-use mathlib.Core.Bool.{Bool, true, false, cond}
+use mathlib.Core.Bool.{Bool, true, false, cond, false≢true}
 use mathlib.Core.Logic.{⊎-elim}
 use Prim.Native.Nat.{ℕ, zero, suc, _+_, _<_}
 use native.Mathlib.Nat.{not-suc-le-zero, eq-or-lt-of-le, le-of-suc-le-suc}
@@ -15,6 +15,15 @@ every-none p = refl
 pub every-more : (p : ℕ → Bool) (k : ℕ) → every p k ≡ true → p k ≡ true → every p (k + 1) ≡ true
 unfolding every
 every-more p k h g = rw (add-one, h, g)
+
+cond-itself : (t : Bool) → cond t true false ≡ t
+cond-itself true = refl
+cond-itself false = refl
+
+-- a place where it holds changes nothing
+pub every-keeps : (p : ℕ → Bool) (k : ℕ) → p k ≡ true → every p (k + 1) ≡ every p k
+unfolding every
+every-keeps p k g = rw (add-one, g) (cond-itself (every p k))
 
 pub every-all : (p : ℕ → Bool) (k : ℕ) → ((j : ℕ) → j < k → p j ≡ true) → every p k ≡ true
 unfolding every
@@ -33,3 +42,10 @@ every-not p (suc k) j h e =
     (λ g. let e′ : p k ≡ false = ap p (sym g) ∙ e in rw e′ (cond-false (every p k)))
     (λ g. rw (every-not p k j g e))
     (eq-or-lt-of-le (le-of-suc-le-suc h))
+
+pub every-at : (p : ℕ → Bool) (k j : ℕ) → j < k → every p k ≡ true → p j ≡ true
+every-at p k j h e = by (p j) refl
+  where
+    by : (t : Bool) → p j ≡ t → p j ≡ true
+    by true q = q
+    by false q = absurd (false≢true (sym (every-not p k j h q) ∙ e))

@@ -95,6 +95,12 @@ pub const WEIGHTS_LONG: Refusal = Refusal {
     found: 0,
     needed: 0,
 };
+// An activation block that was not made of n readings, or has a quant past its count that is not 0.
+pub const WRONG_COUNT: Refusal = Refusal {
+    number: 15,
+    found: 0,
+    needed: 0,
+};
 
 // Fewer packed weights than needed, by whole blocks.
 pub fn blocks_short(found: usize, needed: usize) -> Refusal

@@ -1,5 +1,5 @@
-// An activation block as it stands in a payload: its scale, its quants, a byte each, and its sums, each as the bits of
-// an i32.
+// An activation block as it stands in a payload: its scale, its quants, a byte each, its sums, each as the bits of an
+// i32, and its count.
 use dots_activation::Q8Block;
 use replay_answers::byte_at;
 use replay_answers::same_bits;
@@ -9,11 +9,13 @@ ghost use Rattle.memory.specs.Lists.{every};
 ghost use Rattle.dots_activation.specs.Whole.{elem, eqZ};
 
 // The bytes of a block.
-pub const BLOCK: usize = 292;
-// Where its quants begin, and where its sums do.
+pub const BLOCK: usize = 296;
+// Where its quants begin, where its sums do, and where its count does.
 const QUANTS: usize = 4;
 
 const SUMS: usize = 260;
+
+const COUNT: usize = 292;
 
 fn read_quants(payload: &[u8]) -> [i8; 256] {
     let mut qs = [0i8; 256];
@@ -45,7 +47,13 @@ pub fn read_block(payload: &[u8]) -> Q8Block {
     let d = halves::of_bits(u32_at(payload, 0));
     let qs = read_quants(payload);
     let bsums = read_sums(payload);
-    Q8Block { d, qs, bsums }
+    let count = u32_at(payload, COUNT) as usize;
+    Q8Block {
+        d,
+        qs,
+        bsums,
+        count,
+    }
 }
 
 fn same_quants(a: &[i8; 256], b: &[i8; 256]) -> bool
@@ -70,7 +78,10 @@ fn same_sums(a: &[i32; 8], b: &[i32; 8]) -> bool
     true
 }
 
-// Whether two blocks have the same scale, quants and sums.
+// Whether two blocks have the same scale, quants, sums and count.
 pub fn same_blocks(a: Q8Block, b: Q8Block) -> bool {
-    same_bits(a.d, b.d) && same_quants(&a.qs, &b.qs) && same_sums(&a.bsums, &b.bsums)
+    same_bits(a.d, b.d)
+        && a.count == b.count
+        && same_quants(&a.qs, &b.qs)
+        && same_sums(&a.bsums, &b.bsums)
 }

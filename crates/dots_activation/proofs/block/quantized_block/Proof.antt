@@ -1,5 +1,8 @@
 -- `block::quantized_block` meets its contract. Assumes nothing.
 use mathlib.Core.Path.{ap, _∙_}
+use mathlib.Core.List.{List}
+use lib.IntN.{ℤ}
+use lib.ListN.{length}
 use lib.Ieee.{Float}
 use Rattle.memory.specs.Lists.{table}
 use Rattle.readings.specs.Readings.{inverse}
@@ -19,8 +22,8 @@ returns c =
     let inverse-is = c .before .before .inverse-of .ensures in
     let quants-are = c .before .quants-of .ensures in
     c .block-with .ensures
-    ∙ ap (blockWith (scale .result)) (quants-are ∙ ap (λ (v : Float). table (quantAt x v) 256) inverse-is)
-    ∙ ap (λ (d : Float). blockWith d (table (quantAt x (inverse d)) 256)) (scale .ensures)
+    ∙ ap (λ (q : List ℤ). blockWith (scale .result) q (length x)) (quants-are ∙ ap (λ (v : Float). table (quantAt x v) 256) inverse-is)
+    ∙ ap (λ (d : Float). blockWith d (table (quantAt x (inverse d)) 256) (length x)) (scale .ensures)
 
 pub quantized-block-spec : {M : Type 1} → statement M
 quantized-block-spec =

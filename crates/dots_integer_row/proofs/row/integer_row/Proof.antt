@@ -1,5 +1,5 @@
 -- `row::integer_row` meets its contract: one block's dot a turn. Assumes nothing.
-use mathlib.Core.Path.{refl, sym, subst, _∙_}
+use mathlib.Core.Path.{_≡_, refl, sym, ap, subst, _∙_}
 use Prim.Native.Nat.{_+_, _-_, _*_, _≤_}
 use native.Mathlib.Omega.{arith}
 use lib.ListN.{length}
@@ -9,7 +9,7 @@ use Rattle.memory.proofs.Filled.{part-length}
 use Rattle.memory.proofs.Parts.{within}
 use Rattle.dots_activation.specs.Blocks.{SmallSums}
 use Rattle.dots_activation.specs.declared.block.Q8Block.{Q8Block}
-use Rattle.dots_integer.proofs.Bounds.{small-sums}
+use Rattle.dots_integer.proofs.Bounds.{block-long, small-sums}
 use Rattle.dots_integer_row.proofs.Rows.{block-is, Dots, dots-start, dots-more, dots-met}
 use Rattle.dots_integer_row.proofs.row.integer_row.Statement.{statement}
 use Rattle.dots_integer_row.proofs.row.integer_row.Tie as tie
@@ -51,34 +51,43 @@ quantized-block-requires c κs =
     let s = 256 * t .loop .b in
     omega (arith, part-length (t .before .before .before .before .before .args .x .now) s (b .block-end .result - s) (b .block-end .result) (omega arith) (omega arith))
 
-sub-block-dot-below : tie.Need-sub-block-dot-below Inv-loop μ-loop
-sub-block-dot-below c = omega (arith, inside (c .before .before .before))
+sub-block-dot : tie.Need-sub-block-dot Inv-loop μ-loop
+sub-block-dot c = omega (arith, inside (c .before .before .before))
 
-part-block-dot-below-start : tie.Need-part-block-dot-below-start Inv-loop μ-loop
-part-block-dot-below-start c = omega (arith, inside (c .before .before .before))
+part-block-dot-start : tie.Need-part-block-dot-start Inv-loop μ-loop
+part-block-dot-start c = omega (arith, inside (c .before .before .before))
 
-part-block-dot-below-end : tie.Need-part-block-dot-below-end Inv-loop μ-loop
-part-block-dot-below-end c = omega (arith, inside (c .before .before .before))
+part-block-dot-end : tie.Need-part-block-dot-end Inv-loop μ-loop
+part-block-dot-end c = omega (arith, inside (c .before .before .before))
 
-block-dot-below-requires : tie.Need-block-dot-below-requires Inv-loop μ-loop
-block-dot-below-requires c κs =
-    let q = c .before .before .before .before .before in
+-- the block is long enough
+long : (c : tie.After-quantized-block Inv-loop μ-loop) → (length (c .quantized-block .result .qs) ≡ 256) × (length (c .quantized-block .result .bsums) ≡ 8)
+long c =
+    let e = c .quantized-block .ensures in
+    (ap (λ (b : Q8Block). length (b .qs)) e ∙ block-long _ .0, ap (λ (b : Q8Block). length (b .bsums)) e ∙ block-long _ .1)
+
+slice-aggregate-block-dot : tie.Need-slice-aggregate-block-dot Inv-loop μ-loop
+slice-aggregate-block-dot c = sym (long (c .before .before .before .before .before .before) .1)
+
+block-dot-requires : tie.Need-block-dot-requires Inv-loop μ-loop
+block-dot-requires c κs =
+    let q = c .before .before .before .before .before .before in
     let e = q .before .before in
     let t = e .before .before in
     let size = t .before .before .block-bytes in
     let a = t .before .before .before .before .before .args in
     let from = t .loop .b * size .result in
-    (part-length (a .w .now) from (size .result) (from + size .result) refl (inside e) ∙ size .ensures, λ _. subst (λ (b : Q8Block). SmallSums (b .bsums)) (sym (q .quantized-block .ensures)) (small-sums _))
+    (part-length (a .w .now) from (size .result) (from + size .result) refl (inside e) ∙ size .ensures, long q .0, long q .1, λ _. subst (λ (b : Q8Block). SmallSums (b .bsums)) (sym (q .quantized-block .ensures)) (small-sums _))
 
 loop-again : tie.Need-loop-again Inv-loop μ-loop
 loop-again c =
-    let made = c .before .before .before .before .before .before in
+    let made = c .before .before .before .before .before .before .before in
     let q = made .quantized-block in
     let e = made .before .before .block-end in
     let t = made .before .before .before .before in
     let size = t .before .before .block-bytes in
     let a = t .before .before .before .before .before .args in
-    let v = c .block-dot-below .ensures ∙ block-is (a .format) (a .x .now) (a .w .now) (a .n) (t .loop .b) (e .result) (size .result) (q .result) (size .ensures) (e .ensures .0) (q .ensures) in
+    let v = c .block-dot .ensures ∙ block-is (a .format) (a .x .now) (a .w .now) (a .n) (t .loop .b) (e .result) (size .result) (q .result) (size .ensures) (e .ensures .0) (q .ensures) in
     dots-more (a .format) (a .x .now) (a .w .now) (a .n) _ (t .loop .dots) (t .loop .b) _ refl (omega arith) (omega arith) v (t .loop .inv)
 
 slice-aggregate-canonical-combine : tie.Need-slice-aggregate-canonical-combine Inv-loop μ-loop
@@ -111,11 +120,11 @@ integer-row-spec =
     (λ c. omega arith)
     (λ c. omega arith)
     quantized-block-requires
-    sub-block-dot-below
-    part-block-dot-below-start
-    part-block-dot-below-end
-    (λ c. omega arith)
-    block-dot-below-requires
+    sub-block-dot
+    part-block-dot-start
+    part-block-dot-end
+    slice-aggregate-block-dot
+    block-dot-requires
     (λ c. omega arith)
     (λ c. omega arith)
     (λ c. omega arith)

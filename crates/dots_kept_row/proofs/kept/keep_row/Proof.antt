@@ -7,7 +7,8 @@ use Rattle.memory.proofs.Laid.{laid-long}
 use Rattle.dots_activation.specs.declared.block.Q8Block.{Q8Block}
 use Rattle.dots_activation.specs.Blocks.{blockOf}
 use Rattle.dots_kept_row.specs.Inner.{Keeps}
-use Rattle.dots_kept_row.proofs.Blocks.{block-long, keeps-none, keeps-more}
+use Rattle.dots_integer.proofs.Bounds.{block-long}
+use Rattle.dots_kept_row.proofs.Blocks.{keeps-none, keeps-more}
 use native.Mathlib.Omega.{arith}
 use Rattle.dots_kept_row.proofs.kept.keep_row.Statement.{statement}
 use Rattle.dots_kept_row.proofs.kept.keep_row.Tie as tie

@@ -1,0 +1,3 @@
+-- What several proofs share, here and above.
+pub mod Runs
+pub mod Lanes

@@ -1,0 +1,3 @@
+-- What the whole-number sums of the block dots say.
+pub mod Sums
+pub mod Inner

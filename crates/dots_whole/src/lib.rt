@@ -1,0 +1,6 @@
+// The whole-number sums of the block dots: of weights times small integers, and of minimums times the sums of 32.
+mod whole;
+
+pub use whole::minimum_sum;
+pub use whole::sum_by_runs;
+pub use whole::sum_by_sub_blocks;
