@@ -13,7 +13,8 @@ use Rattle.layouts.specs.declared.format.FormatK.{FormatK}
 use Rattle.dots_activation.specs.Whole.{elem, sumℤ, eqZ}
 use Rattle.dots_activation.specs.Blocks.{sumOf32, rightAt, sumsRight}
 use Rattle.dots_activation.proofs.Ranges.{sum-same}
-use Rattle.dots_integer.specs.Dots.{weighedAt, wholeSum, minimumSum, scaledSum, scaledDot, blockDot, sumsServe}
+use Rattle.dots_whole.specs.Sums.{weighedAt, wholeSum, minimumSum}
+use Rattle.dots_integer.specs.Dots.{scaledSum, scaledDot, blockDot, sumsServe}
 use Rattle.dots_rearranged.specs.Orders.{from}
 use Rattle.dots_rearranged.specs.Moved.{run, Rearrangements}
 use Rattle.dots_rearranged.specs.Laws.{Moved}

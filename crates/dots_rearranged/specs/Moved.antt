@@ -87,9 +87,9 @@ unfoldable pub movedReadings : FormatK → (ℕ → List ℕ) → ℕ → List F
 movedReadings f orders m x =
     table (λ (i : ℕ). getD x (cond (ltb i (256 * m)) (from (run f) orders i) i) nan) (length x)
 
--- an activation block's quants moved; its scale and its sums stay
+-- an activation block's quants moved; its scale, its sums and its count stay
 unfoldable pub movedBlock : FormatK → (ℕ → List ℕ) → Q8Block → Q8Block
-movedBlock f orders b = blockIn (b .d) (table (λ (i : ℕ). elem (b .qs) (from (run f) orders i)) 256) (b .bsums)
+movedBlock f orders b = blockIn (b .d) (table (λ (i : ℕ). elem (b .qs) (from (run f) orders i)) 256) (b .bsums) (b .count)
 
 -- rows of n places, whole blocks, of which each is moved as the first
 abbrev pub everyRow : FormatK → ℕ → (ℕ → List ℕ) → ℕ → List ℕ
