@@ -7,7 +7,7 @@ use native.Mathlib.Omega.{arith}
 use lib.IntN.{ℤ, pos, _*ℤ_}
 use lib.Ieee.{Float, binary32, sub}
 use Rattle.memory.specs.Lists.{every}
-use Rattle.layouts.specs.Formats.{hasMinimums}
+use Rattle.layouts.specs.Formats.{hasMinimums, runLength}
 use Rattle.layouts.specs.K.{quantK, scaleIn, scaleK, minimumQ4K, dOf, dminOf}
 use Rattle.layouts.specs.declared.format.FormatK.{FormatK}
 use Rattle.dots_activation.specs.Whole.{elem, sumℤ, eqZ}
@@ -18,7 +18,7 @@ use Rattle.dots_integer.specs.Dots.{scaledSum, scaledDot, blockDot, sumsServe}
 use Rattle.dots_rearranged.specs.Orders.{from}
 use Rattle.dots_rearranged.specs.Moved.{run, Rearrangements}
 use Rattle.dots_rearranged.specs.Laws.{Moved}
-use Rattle.dots_rearranged.proofs.Places.{same-run, run-below, block-sum, part-sum}
+use Rattle.dots_rearranged.proofs.Places.{same-scale, scale-below, block-sum, part-sum}
 
 every-same : (p q : ℕ → Bool) (k : ℕ) → ((j : ℕ) → j < k → p j ≡ q j) → every p k ≡ every q k
 unfolding every
@@ -40,7 +40,7 @@ module _ (f : FormatK) (orders : ℕ → List ℕ) (each : Rearrangements f orde
   module _ (bs bs′ : List ℕ) (block : Moved f (from (run f) orders) bs bs′) where
     -- a moved place has the same scale
     scale-kept : (i : ℕ) → i < 256 → scaleK f bs′ i ≡ scaleK f bs (from (run f) orders i)
-    scale-kept i h = block .scales (i / run f) (run-below f i h) ∙ ap (scaleIn f bs) (sym (same-run f orders each i))
+    scale-kept i h = block .scales (i / runLength f) (scale-below f i h) ∙ ap (scaleIn f bs) (sym (same-scale f orders each i))
 
     weighed-kept : (i : ℕ) → i < 256 → weighedAt f bs′ (quantK f bs′) qs′ i ≡ weighedAt f bs (quantK f bs) qs (from (run f) orders i)
     weighed-kept i h = rw (scale-kept i h, block .quants i h, moved i h)

@@ -190,8 +190,9 @@ sum-is f (suc n) = rw (sum-is f n)
 pub sum-rearranged : (R : ℕ) (ps : List ℕ) → Rearrangement R ps → (f : ℕ → ℤ) → sumℤ (λ i. f (getD ps i 0)) R ≡ sumℤ f R
 sum-rearranged R ps r f = sum-is _ R ∙ gathered-rearranged adding f r ∙ sym (sum-is f R)
 
-pub sum-moved : (f : ℕ → ℤ) (R k : ℕ) (orders : ℕ → List ℕ) → 0 < R → ((r : ℕ) → Rearrangement R (orders r)) → sumℤ (λ i. f (from R orders i)) (R * k) ≡ sumℤ f (R * k)
-sum-moved f R k orders p each = sum-is _ (R * k) ∙ gathered-moved adding f R k orders p each ∙ sym (sum-is f (R * k))
+-- n places that are k runs of R
+pub sum-moved : (f : ℕ → ℤ) (R k n : ℕ) (orders : ℕ → List ℕ) → R * k ≡ n → 0 < R → ((r : ℕ) → Rearrangement R (orders r)) → sumℤ (λ i. f (from R orders i)) n ≡ sumℤ f n
+sum-moved f R k n orders e p each = rw (← e) (sum-is _ (R * k) ∙ gathered-moved adding f R k orders p each ∙ sym (sum-is f (R * k)))
 
 larger : Orderless {A = ℕ} max 0
 larger = record { assoc = λ a b c. omega arith; comm = max-comm; idl = zero-max }
@@ -200,5 +201,5 @@ peak-is : (f : ℕ → ℕ) (n : ℕ) → peak f n ≡ gathered max 0 f n
 peak-is f zero = refl
 peak-is f (suc n) = rw (peak-is f n)
 
-pub peak-moved : (f : ℕ → ℕ) (R k : ℕ) (orders : ℕ → List ℕ) → 0 < R → ((r : ℕ) → Rearrangement R (orders r)) → peak (λ i. f (from R orders i)) (R * k) ≡ peak f (R * k)
-peak-moved f R k orders p each = peak-is _ (R * k) ∙ gathered-moved larger f R k orders p each ∙ sym (peak-is f (R * k))
+pub peak-moved : (f : ℕ → ℕ) (R k n : ℕ) (orders : ℕ → List ℕ) → R * k ≡ n → 0 < R → ((r : ℕ) → Rearrangement R (orders r)) → peak (λ i. f (from R orders i)) n ≡ peak f n
+peak-moved f R k n orders e p each = rw (← e) (peak-is _ (R * k) ∙ gathered-moved larger f R k orders p each ∙ sym (peak-is f (R * k)))

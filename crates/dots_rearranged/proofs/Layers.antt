@@ -31,6 +31,7 @@ use Rattle.layers_integer_row.specs.Outputs.{integerDotAt, integerOutputs}
 use Rattle.layers_integer.specs.Says.{integerLayerSays}
 use Rattle.dots_rearranged.specs.Moved.{run, Rearrangements, ofBlock, movedWeights, movedReadings, movedBlock, everyRow}
 use Rattle.dots_rearranged.specs.Laws.{Singles}
+use Rattle.dots_rearranged.proofs.Places.{runs-in}
 use Rattle.dots_rearranged.proofs.Weights.{weights-long, weights-moved}
 use Rattle.dots_rearranged.proofs.Activations.{readings-long, readings-moved}
 use Rattle.dots_rearranged.proofs.Blocks.{with-moved}
@@ -50,11 +51,9 @@ part-part l a k b z d h = ext-getD d (part (part l a k) b z) (part l (a + b) z) 
 -- rows of n places, k whole blocks: block c of row o is block o * k + c, and its runs are rearranged as those of block c
 module _ (f : FormatK) (orders : ℕ → List ℕ) (n : ℕ) (whole : n % 256 ≡ 0) where
   runs-in-row : n / run f ≡ 256 / run f * (n / 256)
-  runs-in-row = by (hasMinimums f)
-    where
-      by : (t : Bool) → n / cond t 32 16 ≡ 256 / cond t 32 16 * (n / 256)
-      by true = omega arith
-      by false = omega arith
+  runs-in-row =
+      let e : n ≡ 256 * (n / 256) = omega arith in
+      ap (λ (k : ℕ). k / run f) e ∙ runs-in f (n / 256)
 
   same-runs : (o c : ℕ) → ofBlock f (everyRow f n orders) (o * (n / 256) + c) ≡ ofBlock f (everyRow f n orders) c
   same-runs o c = fun-ext (λ r. ap orders (same r))

@@ -11,8 +11,8 @@ use lib.ListN.{length, getD}
 use Rattle.memory.specs.Lists.{table, every}
 use Rattle.memory.proofs.Filled.{getD-table}
 use Rattle.memory.proofs.Every.{every-not}
-use Rattle.layouts.specs.Formats.{hasMinimums}
 use Rattle.layouts.specs.declared.format.FormatK.{FormatK}
+use Rattle.layouts.specs.declared.format.FormatK.the-variants.{Q4K, Q5K, Q6K}
 use Rattle.dots_rearranged.specs.Orders.{times, Rearrangement, from, unmoved, alone, twoChannels}
 use Rattle.dots_rearranged.specs.Moved.{run, Rearrangements}
 
@@ -24,19 +24,21 @@ tested R ps e t = record { long = e; once = λ j h. by j h (eqb (times j ps) 1) 
     by j h true a = eqb-true (times j ps) 1 a
     by j h false a = let f = every-not (λ (k : ℕ). eqb (times k ps) 1) R j h a in cc
 
-unmoved-is : (t : Bool) → Rearrangement (cond t 32 16) (unmoved (cond t 32 16))
+unmoved-is : (f : FormatK) → Rearrangement (run f) (unmoved (run f))
 unfolding table every
-unmoved-is true = tested 32 (unmoved 32) refl refl
-unmoved-is false = tested 16 (unmoved 16) refl refl
+unmoved-is Q4K = tested (run Q4K) (unmoved (run Q4K)) refl refl
+unmoved-is Q5K = tested (run Q5K) (unmoved (run Q5K)) refl refl
+unmoved-is Q6K = tested (run Q6K) (unmoved (run Q6K)) refl refl
 
-channels-are : (t : Bool) → Rearrangement (cond t 32 16) (twoChannels (cond t 32 16))
+channels-are : (f : FormatK) → Rearrangement (run f) (twoChannels (run f))
 unfolding table every
-channels-are true = tested 32 (twoChannels 32) refl refl
-channels-are false = tested 16 (twoChannels 16) refl refl
+channels-are Q4K = tested (run Q4K) (twoChannels (run Q4K)) refl refl
+channels-are Q5K = tested (run Q5K) (twoChannels (run Q5K)) refl refl
+channels-are Q6K = tested (run Q6K) (twoChannels (run Q6K)) refl refl
 
 -- two channels that come reading by reading, put together in every run
 pub two-channels : (f : FormatK) → Rearrangements f (λ r. twoChannels (run f))
-two-channels f r = channels-are (hasMinimums f)
+two-channels f r = channels-are f
 
 -- one run by a rearrangement, and no other: a rearrangement for each run ..
 pub alone-is : (f : FormatK) (r : ℕ) (ps : List ℕ) → Rearrangement (run f) ps → Rearrangements f (alone (run f) r ps)
@@ -44,7 +46,7 @@ alone-is f r ps m s = by (eqb s r)
   where
     by : (b : Bool) → Rearrangement (run f) (cond b ps (unmoved (run f)))
     by true = m
-    by false = unmoved-is (hasMinimums f)
+    by false = unmoved-is f
 
 module _ (R r : ℕ) (ps : List ℕ) (p : 0 < R) where
   -- .. that moves the places of run r by ps ..

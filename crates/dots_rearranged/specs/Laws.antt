@@ -7,7 +7,7 @@ use lib.Dec.{T}
 use lib.IntN.{ℤ}
 use lib.ListN.{length, getD}
 use lib.Ieee.{Float, nan, binary32, fits}
-use Rattle.layouts.specs.Formats.{bytesK, hasMinimums}
+use Rattle.layouts.specs.Formats.{bytesK, hasMinimums, runLength}
 use Rattle.layouts.specs.K.{quantK, scaleIn, minimumQ4K, dOf, dminOf}
 use Rattle.layouts.specs.Weights.{block}
 use Rattle.layouts.specs.declared.format.Format.the-variants.{OfK}
@@ -35,7 +35,7 @@ pub record Bytes (bs : List ℕ) : Type 0 where
 -- d and, where a format has them, minimums and dmin are those of bs.
 pub record Moved (f : FormatK) (place : ℕ → ℕ) (bs bs′ : List ℕ) : Type 0 where
   pub quants : (i : ℕ) → i < 256 → quantK f bs′ i ≡ quantK f bs (place i)
-  pub scales : (e : ℕ) → e < 256 / run f → scaleIn f bs′ e ≡ scaleIn f bs e
+  pub scales : (e : ℕ) → e < 256 / runLength f → scaleIn f bs′ e ≡ scaleIn f bs e
   pub d-same : dOf f bs′ ≡ dOf f bs
   pub dmin-same : hasMinimums f ≡ true → dminOf bs′ ≡ dminOf bs
   pub minimums : hasMinimums f ≡ true → (j : ℕ) → j < 8 → minimumQ4K bs′ j ≡ minimumQ4K bs j

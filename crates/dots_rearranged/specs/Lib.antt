@@ -2,3 +2,4 @@
 pub mod Orders
 pub mod Moved
 pub mod Laws
+pub mod Worked
