@@ -56,8 +56,8 @@
 
 /* The version of this interface: the major number is another where callers have to change, and the
  * minor one where there is more to call. */
-#define JAMBHARROW_VERSION_MAJOR 3
-#define JAMBHARROW_VERSION_MINOR 1
+#define JAMBHARROW_VERSION_MAJOR 4
+#define JAMBHARROW_VERSION_MINOR 0
 
 #ifdef __cplusplus
 extern "C" {
@@ -100,7 +100,10 @@ enum jambharrow_refusal {
     /* A window still has warm-up readings. */
     JAMBHARROW_WARM_UP = 13,
     /* More weights than needed, in a `_cpu` layer. */
-    JAMBHARROW_WEIGHTS_LONG = 14
+    JAMBHARROW_WEIGHTS_LONG = 14,
+    /* An activation block that was not made of n readings, or has a quant past them that is not
+     * 0. */
+    JAMBHARROW_WRONG_COUNT = 15
 };
 
 /* The words for a number that a call returned, as a static string. A number that is none of
@@ -123,6 +126,7 @@ static inline const char *jambharrow_refusal_words(uint32_t number)
     case JAMBHARROW_UNKNOWN: return "unknown record kind or weight format";
     case JAMBHARROW_WARM_UP: return "the window still has warm-up readings";
     case JAMBHARROW_WEIGHTS_LONG: return "more weights than needed";
+    case JAMBHARROW_WRONG_COUNT: return "the block is not of n readings";
     default: return "a number that is not in the table";
     }
 }
@@ -296,15 +300,17 @@ uint32_t jambharrow_canonical_sum_pub(const float *x, jambharrow_size x_len,
 /* Activation blocks: up to 256 readings become small integers with one float scale, and a dot over
  * them is a sum of whole numbers, which no order of adding changes.
  *
- * A block is three parts, each where the caller has it: d, the scale; qs, 256 quants; and bsums, the
- * sums of the quants, 32 to each. */
+ * A block is four parts, each where the caller has it: d, the scale; qs, 256 quants; bsums, the sums
+ * of the quants, 32 to each; and count, how many readings it was made of. They belong together: hand
+ * a dot the four that one call wrote, and for n the block's count. */
 
 /* The block of at most 256 readings. d is the largest magnitude over 127. A quant is a reading times
  * the inverse of d, to the nearest whole number, within -127 to 127, and 0 past the readings. It
  * refuses with JAMBHARROW_READINGS_SHORT where there are more than 256 readings, and then writes
- * none of the three parts. It needs at most 2,048 bytes of stack. */
+ * none of the four parts. It needs at most 2,048 bytes of stack. */
 uint32_t jambharrow_quantize_block_q8(const float *x, jambharrow_size x_len,
-                                      float *d, int8_t qs[256], int32_t bsums[8]);
+                                      float *d, int8_t qs[256], int32_t bsums[8],
+                                      jambharrow_size *count);
 
 /* The dot of the Q4_K block at the front of w and an activation block:
  * (w's d * d) * A - (w's dmin * d) * M. A is the sum of scale * nibble * quant over the places below
@@ -312,27 +318,37 @@ uint32_t jambharrow_quantize_block_q8(const float *x, jambharrow_size x_len,
  * Bytes behind the block are not looked at. It needs at most 2,048 bytes of stack. It refuses, in
  * this order, with
  *   JAMBHARROW_WEIGHTS_SHORT   fewer than 144 bytes;
- *   JAMBHARROW_WRONG_SUMS      sums that are not the sums of the block's 32s. */
+ *   JAMBHARROW_WRONG_COUNT     an n, above 256 taken as 256, that is not the block's count, or a
+ *                              quant past the count that is not 0; so a count above 256 is refused
+ *                              whatever n is;
+ *   JAMBHARROW_WRONG_SUMS      sums that are not the sums of the block's 32s.
+ * Where it answers, the places past n add nothing to A, nor to M. */
 uint32_t jambharrow_dot_q4k_q8_block(const uint8_t *w, jambharrow_size w_len,
                                      float d, const int8_t qs[256], const int32_t bsums[8],
-                                     jambharrow_size n, float *value, jambharrow_size blocks[2]);
+                                     jambharrow_size count, jambharrow_size n, float *value,
+                                     jambharrow_size blocks[2]);
 
 /* The dot of the Q5_K block at the front of w and an activation block: the same with q, the nibble
  * plus 16 times its fifth bit, in the place of the nibble. It refuses in the same order, with
  *   JAMBHARROW_WEIGHTS_SHORT   fewer than 176 bytes;
+ *   JAMBHARROW_WRONG_COUNT     a count that is not n, or a quant past it, as above;
  *   JAMBHARROW_WRONG_SUMS      sums that are not the sums of the block's 32s.
  * It needs at most 2,048 bytes of stack. */
 uint32_t jambharrow_dot_q5k_q8_block(const uint8_t *w, jambharrow_size w_len,
                                      float d, const int8_t qs[256], const int32_t bsums[8],
-                                     jambharrow_size n, float *value, jambharrow_size blocks[2]);
+                                     jambharrow_size count, jambharrow_size n, float *value,
+                                     jambharrow_size blocks[2]);
 
 /* The dot of the Q6_K block at the front of w and an activation block: (w's d * d) * B, where B is
  * the sum of scale * (quant of w - 32) * quant over the places below n, above 256 taken as 256. The
  * sums are not looked at, nor are bytes behind the block. It needs at most 2,048 bytes of stack. It
- * refuses with JAMBHARROW_WEIGHTS_SHORT where there are fewer than 210 bytes. */
+ * refuses, in this order, with
+ *   JAMBHARROW_WEIGHTS_SHORT   fewer than 210 bytes;
+ *   JAMBHARROW_WRONG_COUNT     a count that is not n, or a quant past it, as above. */
 uint32_t jambharrow_dot_q6k_q8_block(const uint8_t *w, jambharrow_size w_len,
                                      float d, const int8_t qs[256], const int32_t bsums[8],
-                                     jambharrow_size n, float *value, jambharrow_size blocks[2]);
+                                     jambharrow_size count, jambharrow_size n, float *value,
+                                     jambharrow_size blocks[2]);
 
 /* Dots of a row: the first n readings, and the first n weights of packed blocks.
  *

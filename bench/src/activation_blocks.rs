@@ -87,12 +87,12 @@ pub const INTEGER_DOT_Q5K: Call = Call {
 /// How much of a block there is: one run of 32, a part that ends within one, and all of it.
 const PARTS: [(Size, usize); 3] = [(Size::Small, 32), (Size::Small, 100), (Size::Device, 256)];
 
-/// Ours fills the three parts of a block that is lent, and the Rust's is returned.
+/// Ours fills the four parts of a block that is lent, and the Rust's three are returned.
 fn row_of_quantize((size, len): (Size, usize), bar: f64) -> Row {
     let rust: fn(&[f32]) -> quant::Q8Block = black_box(quant::quantize_block_q8);
     let x = readings(&mut Random::new(len as u64), len);
     let theirs = x.clone();
-    let (mut d, mut qs, mut bsums) = (0.0, [0; 256], [0; 8]);
+    let (mut d, mut qs, mut bsums, mut count) = (0.0, [0; 256], [0; 8], 0);
     Row {
         input: format!("{len} readings"),
         size,
@@ -101,8 +101,8 @@ fn row_of_quantize((size, len): (Size, usize), bar: f64) -> Row {
         bar: (size == Size::Device).then_some(bar),
         vector: None,
         ours: Box::new(move || {
-            let (d, qs, bsums) = black_box((&mut d, &mut qs, &mut bsums));
-            jambharrow::quantize_block_q8_into(black_box(&x), d, qs, bsums)
+            let (d, qs, bsums, count) = black_box((&mut d, &mut qs, &mut bsums, &mut count));
+            jambharrow::quantize_block_q8_into(black_box(&x), d, qs, bsums, count)
                 .expect("readings of one block");
         }),
         beside: Beside::Rust(Box::new(move || {
@@ -111,7 +111,8 @@ fn row_of_quantize((size, len): (Size, usize), bar: f64) -> Row {
     }
 }
 
-/// A block dot over parts of a block, and over all of it.
+/// A block dot over parts of a block, and over all of it. Ours looks at the block's count, at what
+/// stands past it, and at its sums.
 fn rows_of_dot(
     layout: &Layout,
     bar: Option<f64>,
@@ -124,7 +125,7 @@ fn rows_of_dot(
         let w = layout.blocks(&mut random, 1, trained_scale);
         let block = quant::quantize_block_q8(&readings(&mut random, n));
         let quant::Q8Block { d, qs, bsums } = block;
-        let (ours_w, ours_block) = (w.clone(), Q8Block { d, qs, bsums });
+        let (ours_w, ours_block) = (w.clone(), Q8Block::from_parts(d, qs, bsums, n));
         Row {
             input: format!("n {n}"),
             size,
@@ -134,7 +135,7 @@ fn rows_of_dot(
             vector: None,
             ours: Box::new(move || {
                 black_box(ours(black_box(&ours_w), black_box(&ours_block), n))
-                    .expect("a block, with its sums");
+                    .expect("a block of n readings, with its sums");
             }),
             beside: Beside::Rust(Box::new(move || {
                 black_box(rust(black_box(&w), black_box(&block), n));

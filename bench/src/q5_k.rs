@@ -308,9 +308,10 @@ mod tests {
             assert_eq!(Ok(fused), ours::canonical_dot_q5k_fused(&x, &w, n));
             let integer = integer_dot_q5k(&x, &w, n).expect("whole blocks");
             assert_eq!(Ok(integer), ours::integer_dot_q5k(&x, &w, n));
-            let Q8Block { d, qs, bsums } = quantize_block_q8(&x[..256]);
+            let places = n.min(256);
+            let Q8Block { d, qs, bsums } = quantize_block_q8(&x[..places]);
             let block = dot_q5k_q8_block(&w, &Q8Block { d, qs, bsums }, n);
-            let our_block = ours::Q8Block { d, qs, bsums };
+            let our_block = ours::Q8Block::from_parts(d, qs, bsums, places);
             assert_eq!(Ok(block), ours::dot_q5k_q8_block(&w, &our_block, n));
         }
     }

@@ -1,7 +1,7 @@
 //! Activation blocks, and the integer dots over them.
-use crate::block_counts::short;
 use crate::calls::Call;
-use crate::compare::{Compared, Comparison};
+use crate::compare::{Compared, Comparison, Difference};
+use crate::forged_blocks::{self, sums_of, Asked, Kind};
 use crate::held;
 use crate::q5_k;
 use crate::row_dots::RowDot;
@@ -51,14 +51,14 @@ pub const INTEGER_DOT_Q5K: Call = Call {
 
 const Q4_K: BlockDot = BlockDot {
     layout: inputs::Q4_K,
-    looks_at_sums: true,
+    kind: Kind::WithMinimums,
     other: quant::dot_q4k_q8_block,
     ours: jambharrow::dot_q4k_q8_block,
 };
 
 const Q6_K: BlockDot = BlockDot {
     layout: inputs::Q6_K,
-    looks_at_sums: false,
+    kind: Kind::WithoutMinimums,
     other: quant::dot_q6k_q8_block,
     ours: jambharrow::dot_q6k_q8_block,
 };
@@ -72,7 +72,7 @@ const INTEGER_Q4_K: RowDot = RowDot {
 
 const Q5_K: BlockDot = BlockDot {
     layout: inputs::Q5_K,
-    looks_at_sums: true,
+    kind: Kind::WithMinimums,
     other: q5_k::block_dot,
     ours: jambharrow::dot_q5k_q8_block,
 };
@@ -109,8 +109,8 @@ fn quantize_refusal(readings: usize) -> Option<Refusal> {
     (readings > VALUES).then_some(Refusal::ReadingsShort)
 }
 
-/// Holds ours to the Rust and to document 01. Each of the block's parts is a part of a larger
-/// memory, no other place of which may change.
+/// Holds ours to the Rust and to document 01, and the count to the readings there are. Each of the
+/// block's parts is a part of a larger memory, no other place of which may change.
 fn quantize_case(x: &[f32]) -> Compared {
     let input = |part: &str| {
         let bits: Vec<u32> = x.iter().take(VALUES).map(|float| float.to_bits()).collect();
@@ -120,32 +120,32 @@ fn quantize_case(x: &[f32]) -> Compared {
         held::memory(3),
         held::signed_bytes(VALUES + 2),
         held::whole_numbers(10),
+        held::counts(3),
     );
-    let (mut d, mut qs, mut bsums) = before.clone();
+    let (mut d, mut qs, mut bsums, mut count) = before.clone();
     let ours = jambharrow::quantize_block_q8_into(
         x,
         &mut d[1],
         (&mut qs[1..=VALUES]).try_into().expect("256 places"),
         (&mut bsums[1..=8]).try_into().expect("eight places"),
+        &mut count[1],
     );
     let refusal = quantize_refusal(x.len());
     held::outcome(refusal, ours, || input(""))?;
     let made = refusal.is_none().then(|| quant::quantize_block_q8(x));
     let made = made.map_or_else(Default::default, |made| {
-        (vec![made.d], made.qs.to_vec(), made.bsums.to_vec())
+        let counted = vec![x.len() as u64];
+        (vec![made.d], made.qs.to_vec(), made.bsums.to_vec(), counted)
     });
     let places = held::places(1, &made.0, &before.0, &d, || input("d "))?
         + held::places(1, &made.1, &before.1, &qs, || input("qs "))?
-        + held::places(1, &made.2, &before.2, &bsums, || input("bsums "))?;
+        + held::places(1, &made.2, &before.2, &bsums, || input("bsums "))?
+        + held::places(1, &made.3, &before.3, &count, || input("count "))?;
     Ok(places)
 }
 
 /// The block that ours answers beside a refusal.
-const NONE: Q8Block = Q8Block {
-    d: 0.0,
-    qs: [0; VALUES],
-    bsums: [0; 8],
-};
+const NONE: Q8Block = Q8Block::from_parts(0.0, [0; VALUES], [0; 8], 0);
 
 /// Blocks of every class, the bench card's, each count around a sub-block's and a block's, and one
 /// reading too many. A payload is how many readings there are, the readings, the refusal's number,
@@ -155,10 +155,10 @@ fn sample_quantize_block_q8(records: &mut Records) {
     let mut store = |x: &[f32]| {
         let refusal = quantize_refusal(x.len());
         let block = match refusal {
-            None => of_rust(quant::quantize_block_q8(x)),
+            None => of_rust(x),
             Some(_) => NONE,
         };
-        let [scale, quants, sums] = stored(&block);
+        let [scale, quants, sums, readings] = stored(&block);
         records.push(&[
             &count(x.len()),
             &floats(x),
@@ -166,6 +166,7 @@ fn sample_quantize_block_q8(records: &mut Records) {
             &scale,
             &quants,
             &sums,
+            &readings,
         ]);
     };
     store(&[0x0080_0000, 0x0000_0200, 0].map(f32::from_bits));
@@ -178,26 +179,30 @@ fn sample_quantize_block_q8(records: &mut Records) {
     }
 }
 
-/// A block as it stands in a payload: its scale, its quants, a byte each, and its sums, each as a
-/// little-endian i32.
-fn stored(block: &Q8Block) -> [Vec<u8>; 3] {
-    let quants = block.qs.map(|quant| quant as u8);
-    let sums = block.bsums.iter().flat_map(|sum| sum.to_le_bytes());
-    [floats(&[block.d]), quants.to_vec(), sums.collect()]
+/// A block as it stands in a payload: its scale, its quants, a byte each, its sums, each as a
+/// little-endian i32, and its count.
+fn stored(block: &Q8Block) -> [Vec<u8>; 4] {
+    let quants = block.qs().map(|quant| quant as u8);
+    let sums = block.bsums().iter().flat_map(|sum| sum.to_le_bytes());
+    [
+        floats(&[block.d()]),
+        quants.to_vec(),
+        sums.collect(),
+        count(block.count()).to_vec(),
+    ]
 }
 
-/// The Rust's block, as ours.
-fn of_rust(block: quant::Q8Block) -> Q8Block {
-    let quant::Q8Block { d, qs, bsums } = block;
-    Q8Block { d, qs, bsums }
+/// The Rust's block of readings, as ours, with their count.
+fn of_rust(x: &[f32]) -> Q8Block {
+    let quant::Q8Block { d, qs, bsums } = quant::quantize_block_q8(x);
+    Q8Block::from_parts(d, qs, bsums, x.len())
 }
 
 /// The dot of a packed block and an activation block, on both sides. The other side is the Rust, or
-/// the reference of Q5_K.
+/// the reference of Q5_K; where documents 01 and 02 say no, it is they.
 struct BlockDot {
     layout: Layout,
-    /// Whether it refuses a block whose sums are not the sums of its 32s.
-    looks_at_sums: bool,
+    kind: Kind,
     other: fn(&[u8], &quant::Q8Block, usize) -> f32,
     ours: fn(&[u8], &Q8Block, usize) -> Result<f32, Refusal>,
 }
@@ -216,19 +221,21 @@ impl BlockDot {
         comparison.cases("blocks of readings of every class", 1 << 20, |number| {
             let mut random = Random::new(number);
             let block = of_readings(&mut random);
-            self.case(&self.packed(&mut random), &block, random.below(300))
+            let n = places(&mut random, &block);
+            self.case(&self.packed(&mut random), &block, n)
         });
         comparison.cases("blocks of any quants and scale", 1 << 20, |number| {
             let mut random = Random::new(number);
             let block = of_any_quants(&mut random);
-            self.case(&self.packed(&mut random), &block, random.below(300))
+            let n = places(&mut random, &block);
+            self.case(&self.packed(&mut random), &block, n)
         });
         let counts = (COUNTS.len() as u64 + 1) * 4_096;
         comparison.cases("n around each boundary, and the most", counts, |number| {
             let mut random = Random::new(number);
-            let block = of_readings(&mut random);
             let n = COUNTS.get(number as usize / 4_096);
             let n = n.copied().unwrap_or(usize::MAX);
+            let block = of_rust(&row(&mut random, n.min(VALUES)));
             self.case(&self.packed(&mut random), &block, n)
         });
         comparison.cases("every half as a scale", 1 << 16, |half| {
@@ -236,23 +243,38 @@ impl BlockDot {
             let block = of_readings(&mut random);
             let mut packed = self.packed(&mut random);
             set_scale(&mut packed, scales[random.below(scales.len())], half as u16);
-            self.case(&packed, &block, VALUES)
+            self.case(&packed, &block, block.count())
         });
         comparison.cases("fewer bytes, and more", 2 * bytes as u64, |number| {
             let mut random = Random::new(number);
             let packed = [self.packed(&mut random), self.packed(&mut random)].concat();
             let block = of_readings(&mut random);
-            self.case(&packed[..number as usize], &block, VALUES)
+            self.case(&packed[..number as usize], &block, block.count())
         });
-        let what = if self.looks_at_sums {
-            "wrong sums, which the other side believes: document 01 alone"
-        } else {
-            "wrong sums, at which no one looks"
-        };
-        comparison.cases(what, 1 << 18, |number| {
+        let what = "a block and every n but its count, which the other side answers";
+        comparison.cases(what, 300 * 1_024, |number| {
             let mut random = Random::new(number);
-            let block = of_wrong_sums(&mut random);
-            self.case(&self.packed(&mut random), &block, random.below(300))
+            let block = of_readings(&mut random);
+            self.case(&self.packed(&mut random), &block, number as usize % 300)
+        });
+        let what = "forged blocks: count, quants past it, sums, each alone and together, \
+                    with short weights too";
+        comparison.cases(what, 1 << 21, |number| {
+            let mut random = Random::new(number);
+            let block = [of_readings, of_any_quants][random.below(2)](&mut random);
+            let packed = self.packed(&mut random);
+            let forged = forged_blocks::of(&mut random, &block, packed.len());
+            let wanted = forged.refusal(self.kind, &self.layout);
+            let Asked { block, bytes, n } = forged.asked;
+            let judged = forged_blocks::judged(self.kind, &self.layout, bytes, &block, n);
+            if judged != wanted {
+                return Err(Difference {
+                    input: format!("{bytes} bytes, {block:?}, n {n}: the documents"),
+                    wanted: format!("{wanted:?} by how it was forged"),
+                    ours: format!("{judged:?} by what it is"),
+                });
+            }
+            self.case(&packed[..bytes], &block, n)
         });
     }
 
@@ -262,20 +284,9 @@ impl BlockDot {
         self.layout.blocks(random, 1, scale)
     }
 
-    /// Why document 01 says no to so many bytes and this block.
-    fn refusal(&self, bytes: usize, block: &Q8Block) -> Option<Refusal> {
-        if bytes < self.layout.bytes {
-            Some(short(&self.layout, bytes, 1))
-        } else if self.looks_at_sums && block.bsums != sums_of(&block.qs) {
-            Some(Refusal::WrongSums)
-        } else {
-            None
-        }
-    }
-
     fn case(&self, w: &[u8], block: &Q8Block, n: usize) -> Compared {
         held::value(
-            self.refusal(w.len(), block),
+            forged_blocks::judged(self.kind, &self.layout, w.len(), block, n),
             || self.other_answers(w, block, n),
             (self.ours)(w, block, n),
             || format!("{} bytes {w:02X?}, {block:?}, n {n}", w.len()),
@@ -283,22 +294,23 @@ impl BlockDot {
     }
 
     fn other_answers(&self, w: &[u8], block: &Q8Block, n: usize) -> f32 {
-        let &Q8Block { d, qs, bsums } = block;
+        let (d, qs, bsums) = (block.d(), *block.qs(), *block.bsums());
         (self.other)(w, &quant::Q8Block { d, qs, bsums }, n)
     }
 
-    /// Blocks of readings and of any quants, at each n, wrong sums, and too few bytes. A payload is
-    /// n, how many packed bytes there are, these, the activation block's scale, quants and sums,
-    /// the number of the refusal, and the value, each 0 where there is none.
+    /// Blocks of readings and of any quants, at each n, wrong sums, and too few bytes; then, at each
+    /// n, a block of as many readings, and forged counts. A payload is n, how many packed bytes there
+    /// are, these, the activation block's scale, quants, sums and count, the number of the refusal,
+    /// and the value, each 0 where there is none.
     fn sample(&self, records: &mut Records) {
         let mut random = Random::new(self.layout.bytes as u64);
         let mut store = |w: &[u8], block: &Q8Block, n: usize| {
-            let refusal = self.refusal(w.len(), block);
+            let refusal = forged_blocks::judged(self.kind, &self.layout, w.len(), block, n);
             let value = match refusal {
                 Some(_) => 0.0,
                 None => self.other_answers(w, block, n),
             };
-            let [scale, quants, sums] = stored(block);
+            let [scale, quants, sums, readings] = stored(block);
             records.push(&[
                 &count(n),
                 &count(w.len()),
@@ -306,6 +318,7 @@ impl BlockDot {
                 &scale,
                 &quants,
                 &sums,
+                &readings,
                 &count(refusal.map_or(0, |refusal| refusal.number() as usize)),
                 &floats(&[value]),
             ]);
@@ -316,50 +329,64 @@ impl BlockDot {
         }
         for (n, wrong_by) in [(0, 1), (100, -1), (256, 65_536)] {
             let packed = self.packed(&mut random);
-            store(&packed, &of_any_quants(&mut random), n);
-            let mut wrong = of_readings(&mut random);
-            wrong.bsums[n % 8] += wrong_by;
+            store(&packed, &full_of_any_quants(&mut random), n);
+            let wrong = with_sum(&of_readings(&mut random), n % 8, wrong_by);
             store(&packed, &wrong, n);
             store(&packed[1..], &wrong, n);
+        }
+        for n in COUNTS {
+            let packed = self.packed(&mut random);
+            store(&packed, &of_rust(&row(&mut random, n.min(VALUES))), n);
+        }
+        for (readings, said) in [(256, 257), (100, 99), (0, 65_536), (32, 33)] {
+            let packed = self.packed(&mut random);
+            let block = with_count(&of_rust(&[1.0; VALUES][..readings]), said);
+            store(&packed, &block, said);
+            store(&packed, &with_sum(&block, 0, 1), said);
+            store(&packed[1..], &block, said);
         }
     }
 }
 
-/// The sums of each 32 of the quants.
-fn sums_of(qs: &[i8; VALUES]) -> [i32; 8] {
-    std::array::from_fn(|j| qs[32 * j..32 * j + 32].iter().map(|&q| i32::from(q)).sum())
+/// An n that the block serves: its count, or where that is 256 any above it.
+fn places(random: &mut Random, block: &Q8Block) -> usize {
+    match block.count() {
+        VALUES => VALUES + [0, random.below(44), random.u64() as usize >> 1][random.below(3)],
+        count => count,
+    }
 }
 
 /// The Rust's block of up to 256 readings.
 fn of_readings(random: &mut Random) -> Q8Block {
     let len = [VALUES, random.below(VALUES + 1)][random.below(2)];
-    of_rust(quant::quantize_block_q8(&row(random, len)))
+    of_rust(&row(random, len))
 }
 
 /// A block that no quantizer made: any quants, with their sums, and a scale of any kind.
-fn of_any_quants(random: &mut Random) -> Q8Block {
+fn full_of_any_quants(random: &mut Random) -> Q8Block {
     let bytes = random.bytes(VALUES);
     let qs = std::array::from_fn(|place| bytes[place] as i8);
-    Q8Block {
-        d: any_float(random),
-        qs,
-        bsums: sums_of(&qs),
-    }
+    Q8Block::from_parts(any_float(random), qs, sums_of(&qs), VALUES)
 }
 
-/// A block of which one sum or two are wrong, by a little, by as much as 16 bits do not tell, or by
-/// any number.
-fn of_wrong_sums(random: &mut Random) -> Q8Block {
-    let mut block = [of_readings, of_any_quants][random.below(2)](random);
-    let right = block.bsums;
-    while block.bsums == right {
-        let place = random.below(8);
-        let by = [1, -1, 65_536, -65_536, 1 << 24, random.u32() as i32][random.below(6)];
-        block.bsums[place] = block.bsums[place].wrapping_add(by);
-        if random.below(4) == 0 {
-            let other = random.below(8);
-            block.bsums[other] = block.bsums[other].wrapping_sub(by);
-        }
-    }
-    block
+/// The same, or one with fewer of them, and 0 past them; its count may be above theirs then.
+fn of_any_quants(random: &mut Random) -> Q8Block {
+    let block = full_of_any_quants(random);
+    let count = [VALUES, random.below(VALUES + 1)][random.below(2)];
+    let quants = [count, random.below(count + 1)][random.below(2)];
+    let mut qs = *block.qs();
+    qs[quants..].fill(0);
+    Q8Block::from_parts(block.d(), qs, sums_of(&qs), count)
+}
+
+/// The block with another sum.
+fn with_sum(block: &Q8Block, place: usize, by: i32) -> Q8Block {
+    let mut bsums = *block.bsums();
+    bsums[place] += by;
+    Q8Block::from_parts(block.d(), *block.qs(), bsums, block.count())
+}
+
+/// The block with another count.
+fn with_count(block: &Q8Block, count: usize) -> Q8Block {
+    Q8Block::from_parts(block.d(), *block.qs(), *block.bsums(), count)
 }

@@ -68,15 +68,15 @@ pub fn refused(refusal: Refusal) -> String {
 
 /// What stands in one place of lent memory.
 pub trait Place: Copy {
-    fn bits(self) -> u32;
+    fn bits(self) -> u64;
 
     /// Whether this may be written where the Rust writes `other`.
     fn stands_for(self, other: Self) -> bool;
 }
 
 impl Place for f32 {
-    fn bits(self) -> u32 {
-        self.to_bits()
+    fn bits(self) -> u64 {
+        self.to_bits().into()
     }
 
     fn stands_for(self, other: f32) -> bool {
@@ -85,7 +85,7 @@ impl Place for f32 {
 }
 
 impl Place for u8 {
-    fn bits(self) -> u32 {
+    fn bits(self) -> u64 {
         self.into()
     }
 
@@ -95,7 +95,7 @@ impl Place for u8 {
 }
 
 impl Place for i8 {
-    fn bits(self) -> u32 {
+    fn bits(self) -> u64 {
         (self as u8).into()
     }
 
@@ -105,11 +105,21 @@ impl Place for i8 {
 }
 
 impl Place for i32 {
-    fn bits(self) -> u32 {
-        self as u32
+    fn bits(self) -> u64 {
+        (self as u32).into()
     }
 
     fn stands_for(self, other: i32) -> bool {
+        self == other
+    }
+}
+
+impl Place for u64 {
+    fn bits(self) -> u64 {
+        self
+    }
+
+    fn stands_for(self, other: u64) -> bool {
         self == other
     }
 }
@@ -132,6 +142,13 @@ pub fn signed_bytes(len: usize) -> Vec<i8> {
 /// Whole numbers of all bits, another at each place: memory before it is lent.
 pub fn whole_numbers(len: usize) -> Vec<i32> {
     marks(len).map(|mark| mark as i32).collect()
+}
+
+/// Counts of all bits, another at each place: memory before it is lent.
+pub fn counts(len: usize) -> Vec<u64> {
+    marks(len)
+        .map(|mark| u64::from(mark) << 32 | u64::from(!mark))
+        .collect()
 }
 
 fn marks(len: usize) -> impl Iterator<Item = u32> {

@@ -14,6 +14,7 @@ mod campaign;
 mod compare;
 mod fillin;
 mod fixed_order_sums;
+mod forged_blocks;
 mod formats;
 mod fused_dots;
 mod gate_records;

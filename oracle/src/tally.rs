@@ -3,8 +3,8 @@ use jambharrow::Refusal;
 use std::fmt;
 use std::sync::atomic::{AtomicU64, Ordering};
 
-/// The numbers that say no are 1 to 14.
-const NUMBERS: usize = 15;
+/// The numbers that say no are 1 to 15.
+const NUMBERS: usize = 16;
 
 static COUNTS: [AtomicU64; NUMBERS] = [const { AtomicU64::new(0) }; NUMBERS];
 

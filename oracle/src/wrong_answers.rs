@@ -56,6 +56,9 @@ const fn refused(call: &'static str, record: usize, part: usize, untouched: usiz
     }
 }
 
+/// The first record of a block dot whose block is sure to be of n readings.
+const FIRST_DOT_ANSWERED: usize = 29;
+
 pub static FAMILIES: [Family; 9] = [
     // A float; a half, and how the number fared.
     Family {
@@ -95,7 +98,7 @@ pub static FAMILIES: [Family; 9] = [
             wrong("quantize_q4_0", 0, 5),
         ],
     },
-    // A block's number, its scale, a quant and a sum; a dot's number, and its value.
+    // A block's number, its scale, a quant, a sum and its count; a dot's number, and its value.
     Family {
         name: "activation blocks",
         answers: &[
@@ -103,7 +106,9 @@ pub static FAMILIES: [Family; 9] = [
             wrong("quantize_block_q8", 1, 3),
             wrong("quantize_block_q8", 1, 4),
             wrong("quantize_block_q8", 1, 5),
-            wrong("dot_q4k_q8_block", 0, 6),
+            wrong("quantize_block_q8", 1, 6),
+            wrong("dot_q4k_q8_block", FIRST_DOT_ANSWERED, 7),
+            wrong("dot_q4k_q8_block", FIRST_DOT_ANSWERED, 8),
             wrong("dot_q4k_q8_block", 0, 7),
         ],
     },

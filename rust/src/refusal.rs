@@ -50,6 +50,9 @@ pub enum Refusal {
     WarmUp,
     /// 14: more weights than needed, in a `_cpu` layer.
     WeightsLong,
+    /// 15: an activation block that was not made of n readings, or has a quant past them that is not
+    /// 0.
+    WrongCount,
 }
 
 /// How short weights are, in blocks.
@@ -64,7 +67,7 @@ pub struct Blocks {
 
 impl Refusal {
     /// Every refusal, in the order of the numbers, without counts.
-    pub const ALL: [Refusal; 14] = [
+    pub const ALL: [Refusal; 15] = [
         Refusal::NotWholeBlocks,
         Refusal::NotAMultiple,
         Refusal::WeightsShort(None),
@@ -79,6 +82,7 @@ impl Refusal {
         Refusal::Unknown,
         Refusal::WarmUp,
         Refusal::WeightsLong,
+        Refusal::WrongCount,
     ];
 
     /// The number that says no.
@@ -98,6 +102,7 @@ impl Refusal {
             Refusal::Unknown => 12,
             Refusal::WarmUp => 13,
             Refusal::WeightsLong => 14,
+            Refusal::WrongCount => 15,
         }
     }
 
@@ -126,6 +131,7 @@ impl Refusal {
             Refusal::Unknown => "unknown record kind or weight format",
             Refusal::WarmUp => "the window still has warm-up readings",
             Refusal::WeightsLong => "more weights than needed",
+            Refusal::WrongCount => "the block is not of n readings",
         }
     }
 }
@@ -207,7 +213,7 @@ mod tests {
             assert_eq!(Refusal::of(refusal.number()), Some(refusal));
         }
         assert_eq!(Refusal::of(0), None);
-        assert_eq!(Refusal::of(15), None);
+        assert_eq!(Refusal::of(16), None);
     }
 
     #[test]

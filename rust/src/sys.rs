@@ -14,14 +14,15 @@ pub type Quantizer = unsafe extern "C" fn(*const f32, Size, *mut u8, Size, *mut 
 /// A converter of blocks.
 pub type Converter = unsafe extern "C" fn(*const u8, Size, *mut u8, Size) -> u32;
 
-/// The dot of a packed block and an activation block, whose parts are its scale, its quants and its
-/// sums. Last are the places of the value and of the two counts of blocks.
+/// The dot of a packed block and an activation block, whose parts are its scale, its quants, its sums
+/// and its count; then comes n. Last are the places of the value and of the two counts of blocks.
 pub type BlockDot = unsafe extern "C" fn(
     *const u8,
     Size,
     f32,
     *const [i8; 256],
     *const [i32; 8],
+    Size,
     Size,
     *mut f32,
     *mut [Size; 2],
@@ -172,6 +173,7 @@ unsafe extern "C" {
         d: *mut f32,
         qs: *mut [i8; 256],
         bsums: *mut [i32; 8],
+        count: *mut Size,
     ) -> u32;
     pub fn jambharrow_dot_q4k_q8_block(
         w: *const u8,
@@ -179,6 +181,7 @@ unsafe extern "C" {
         d: f32,
         qs: *const [i8; 256],
         bsums: *const [i32; 8],
+        count: Size,
         n: Size,
         value: *mut f32,
         blocks: *mut [Size; 2],
@@ -189,6 +192,7 @@ unsafe extern "C" {
         d: f32,
         qs: *const [i8; 256],
         bsums: *const [i32; 8],
+        count: Size,
         n: Size,
         value: *mut f32,
         blocks: *mut [Size; 2],
@@ -199,6 +203,7 @@ unsafe extern "C" {
         d: f32,
         qs: *const [i8; 256],
         bsums: *const [i32; 8],
+        count: Size,
         n: Size,
         value: *mut f32,
         blocks: *mut [Size; 2],
