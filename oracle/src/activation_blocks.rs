@@ -42,9 +42,12 @@ pub const INTEGER_DOT_Q4K: Call = Call {
     name: "integer_dot_q4k",
     compare: |comparison| {
         INTEGER_Q4_K.compare(comparison);
-        rearranged::of_row_dot(comparison, &INTEGER_Q4_K.layout, INTEGER_Q4_K.ours, |random, blocks| {
-            INTEGER_Q4_K.weights(random, blocks)
-        });
+        rearranged::of_row_dot(
+            comparison,
+            &INTEGER_Q4_K.layout,
+            INTEGER_Q4_K.ours,
+            |random, blocks| INTEGER_Q4_K.weights(random, blocks),
+        );
     },
     sample: |records| INTEGER_Q4_K.sample(records),
 };
@@ -62,9 +65,12 @@ pub const INTEGER_DOT_Q5K: Call = Call {
     name: "integer_dot_q5k",
     compare: |comparison| {
         INTEGER_Q5_K.compare(comparison);
-        rearranged::of_row_dot(comparison, &INTEGER_Q5_K.layout, INTEGER_Q5_K.ours, |random, blocks| {
-            INTEGER_Q5_K.weights(random, blocks)
-        });
+        rearranged::of_row_dot(
+            comparison,
+            &INTEGER_Q5_K.layout,
+            INTEGER_Q5_K.ours,
+            |random, blocks| INTEGER_Q5_K.weights(random, blocks),
+        );
     },
     sample: |records| INTEGER_Q5_K.sample(records),
 };

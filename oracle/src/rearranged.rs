@@ -1,7 +1,7 @@
 //! Document 02's law of order on the compiled code, ours beside ours: the quants of a packed block are
 //! moved inside each sub-block or run, and the activation quants, or the readings, of the same places
 //! alike.
-use crate::compare::{Compared, Comparison};
+use crate::compare::Comparison;
 use crate::held;
 use crate::laws::held_to;
 use crate::layer_cases;
@@ -142,7 +142,11 @@ pub fn of_block_dot(
     let case = |number: u64, random: &mut Random, asked: Asked| {
         let Asked { w, block, n } = asked;
         let order = order_in_runs(random, quants(layout).run, 1);
-        let other = dot(&moved_weights(layout, &w, &order), &moved_block(&block, &order), n);
+        let other = dot(
+            &moved_weights(layout, &w, &order),
+            &moved_block(&block, &order),
+            n,
+        );
         held_to(dot(&w, &block, n), other, held::same, || {
             format!("n {n}, case {number}")
         })
@@ -152,11 +156,15 @@ pub fn of_block_dot(
         let asked = full(&mut random);
         case(number, &mut random, asked)
     });
-    comparison.cases("quants moved, where 3, 15 or 7 is said", REFUSED, |number| {
-        let mut random = Random::new(number);
-        let asked = refused(&mut random);
-        case(number, &mut random, asked)
-    });
+    comparison.cases(
+        "quants moved, where 3, 15 or 7 is said",
+        REFUSED,
+        |number| {
+            let mut random = Random::new(number);
+            let asked = refused(&mut random);
+            case(number, &mut random, asked)
+        },
+    );
 }
 
 /// A row dot of ours.
@@ -170,41 +178,62 @@ pub fn of_row_dot(
     dot: RowDot,
     weights: impl Fn(&mut Random, usize) -> Vec<u8> + Sync,
 ) {
-    comparison.cases("readings and quants moved inside their runs", TRIED, |number| {
-        let mut random = Random::new(number);
-        let most = if number % LONG_ONE_IN == 0 { LONG } else { SHORT };
-        let n = random.below(most + 1);
-        let x = row(&mut random, n);
-        let w = weights(&mut random, n.div_ceil(PLACES));
-        let order = order_in_runs(&mut random, quants(layout).run, n / PLACES);
-        let (y, v) = (moved(&x, &order), moved_weights(layout, &w, &order));
-        held_to(dot(&x, &w, n), dot(&y, &v, n), held::same, || {
-            format!("n {n}, case {number}")
-        })
-    });
+    comparison.cases(
+        "readings and quants moved inside their runs",
+        TRIED,
+        |number| {
+            let mut random = Random::new(number);
+            let most = if number % LONG_ONE_IN == 0 {
+                LONG
+            } else {
+                SHORT
+            };
+            let n = random.below(most + 1);
+            let x = row(&mut random, n);
+            let w = weights(&mut random, n.div_ceil(PLACES));
+            let order = order_in_runs(&mut random, quants(layout).run, n / PLACES);
+            let (y, v) = (moved(&x, &order), moved_weights(layout, &w, &order));
+            held_to(dot(&x, &w, n), dot(&y, &v, n), held::same, || {
+                format!("n {n}, case {number}")
+            })
+        },
+    );
 }
 
 /// The law of an integer layer, each of whose rows is moved alike; each of its outputs in its place.
 pub fn of_layer(comparison: &mut Comparison, layer: &Layer) {
-    comparison.cases("readings and quants moved inside their runs", TRIED, |number| {
-        let mut random = Random::new(number);
-        let asked = layer_cases::of_few_blocks(layer, &mut random);
-        let (x, w) = layer.inputs(&mut random, asked);
-        let order = order_in_runs(&mut random, quants(&layer.layout).run, asked.sizes.in_feat / PLACES);
-        let y = by_rows(asked.sizes.batch, &order, |order| moved(&x, order));
-        let v = by_rows(asked.sizes.out_feat, &order, |order| moved_weights(&layer.layout, &w, order));
-        let filled = |x: &[f32], w: &[u8]| {
-            let mut outputs = held::memory(asked.lengths.places);
-            let said = layer.ours(x, w, &mut outputs, &mut [], asked.sizes);
-            (said.map(|()| 0.0), outputs)
-        };
-        let ((said, outputs), (other, others)) = (filled(&x, &w), filled(&y, &v));
-        let input = || format!("{asked:?}, case {number}");
-        held_to(said, other, held::same, input)?;
-        outputs.iter().zip(&others).try_fold(0, |values, (&output, &other)| {
-            Ok(values + held_to(Ok(output), Ok(other), held::same, input)?)
-        })
-    });
+    comparison.cases(
+        "readings and quants moved inside their runs",
+        TRIED,
+        |number| {
+            let mut random = Random::new(number);
+            let asked = layer_cases::of_few_blocks(layer, &mut random);
+            let (x, w) = layer.inputs(&mut random, asked);
+            let order = order_in_runs(
+                &mut random,
+                quants(&layer.layout).run,
+                asked.sizes.in_feat / PLACES,
+            );
+            let y = by_rows(asked.sizes.batch, &order, |order| moved(&x, order));
+            let v = by_rows(asked.sizes.out_feat, &order, |order| {
+                moved_weights(&layer.layout, &w, order)
+            });
+            let filled = |x: &[f32], w: &[u8]| {
+                let mut outputs = held::memory(asked.lengths.places);
+                let said = layer.ours(x, w, &mut outputs, &mut [], asked.sizes);
+                (said.map(|()| 0.0), outputs)
+            };
+            let ((said, outputs), (other, others)) = (filled(&x, &w), filled(&y, &v));
+            let input = || format!("{asked:?}, case {number}");
+            held_to(said, other, held::same, input)?;
+            outputs
+                .iter()
+                .zip(&others)
+                .try_fold(0, |values, (&output, &other)| {
+                    Ok(values + held_to(Ok(output), Ok(other), held::same, input)?)
+                })
+        },
+    );
 }
 
 /// What is moved where each of so many rows has the order of one.
@@ -218,14 +247,24 @@ fn by_rows<T>(rows: usize, order: &[usize], moved: impl Fn(&[usize]) -> T) -> T 
 #[cfg(test)]
 mod tests {
     use super::*;
-    use jambharrow::{canonical_dot_q4k_fused, dot_q4k_q8_block, integer_dot_q4k, quantize_block_q8};
+    use jambharrow::{
+        canonical_dot_q4k_fused, dot_q4k_q8_block, integer_dot_q4k, quantize_block_q8,
+    };
     use oracle::inputs::{trained_scale, Q4_K, Q5_K, Q6_K};
     use std::collections::HashSet;
 
     /// The order that puts two channels together inside runs.
     fn channels(run: usize) -> Order {
-        let place = |i: usize| if i < run / 2 { 2 * i } else { 2 * (i - run / 2) + 1 };
-        (0..PLACES).map(|i| i / run * run + place(i % run)).collect()
+        let place = |i: usize| {
+            if i < run / 2 {
+                2 * i
+            } else {
+                2 * (i - run / 2) + 1
+            }
+        };
+        (0..PLACES)
+            .map(|i| i / run * run + place(i % run))
+            .collect()
     }
 
     #[test]
@@ -233,12 +272,13 @@ mod tests {
         for (layout, bits) in [(Q4_K, 4), (Q5_K, 5), (Q6_K, 6)] {
             let parts = quants(&layout).parts;
             let places = (0..PLACES).flat_map(parts);
-            let single = places.flat_map(|(byte, bit, width)| {
-                (bit..bit + width).map(move |bit| (byte, bit))
-            });
+            let single = places
+                .flat_map(|(byte, bit, width)| (bit..bit + width).map(move |bit| (byte, bit)));
             let single: HashSet<(usize, usize)> = single.collect();
             assert_eq!(single.len(), PLACES * bits);
-            assert!(single.iter().all(|&(byte, bit)| byte < layout.bytes && bit < 8));
+            assert!(single
+                .iter()
+                .all(|&(byte, bit)| byte < layout.bytes && bit < 8));
         }
     }
 
@@ -249,7 +289,10 @@ mod tests {
             let order = order_in_runs(&mut random, run, 3);
             let places: HashSet<usize> = order.iter().copied().collect();
             assert_eq!(places.len(), 3 * PLACES);
-            assert!(order.iter().enumerate().all(|(to, from)| to / run == from / run));
+            assert!(order
+                .iter()
+                .enumerate()
+                .all(|(to, from)| to / run == from / run));
         }
     }
 
@@ -257,7 +300,11 @@ mod tests {
     fn worked(places: [usize; 3]) -> (Vec<f32>, Vec<u8>) {
         let (mut x, mut w) = (vec![0.0; PLACES], vec![0; Q4_K.bytes]);
         (w[1], w[4]) = (0x3C, 1);
-        for (place, (quant, reading)) in places.into_iter().zip([(2, 8_388_608.0), (1, 1.0), (1, 1.0)]) {
+        for (place, (quant, reading)) in
+            places
+                .into_iter()
+                .zip([(2, 8_388_608.0), (1, 1.0), (1, 1.0)])
+        {
             (w[16 + place], x[place]) = (quant, reading);
         }
         (x, w)
@@ -267,11 +314,17 @@ mod tests {
     fn the_fused_dot_tells_the_worked_row_and_the_integer_dot_does_not() {
         let ((x, w), (y, v)) = (worked([0, 4, 12]), worked([0, 2, 6]));
         let order = channels(32);
-        assert_eq!((moved(&x, &order), moved_weights(&Q4_K, &w, &order)), (y.clone(), v.clone()));
+        assert_eq!(
+            (moved(&x, &order), moved_weights(&Q4_K, &w, &order)),
+            (y.clone(), v.clone())
+        );
         let bits = |x: &[f32], w: &[u8]| canonical_dot_q4k_fused(x, w, PLACES).map(f32::to_bits);
         assert_eq!(bits(&x, &w), Ok(0x4B80_0001));
         assert_eq!(bits(&y, &v), Ok(0x4B80_0000));
-        assert_eq!(integer_dot_q4k(&x, &w, PLACES), integer_dot_q4k(&y, &v, PLACES));
+        assert_eq!(
+            integer_dot_q4k(&x, &w, PLACES),
+            integer_dot_q4k(&y, &v, PLACES)
+        );
     }
 
     /// How many of 1,000 blocks of readings have another dot once their quants are moved so.
@@ -279,11 +332,15 @@ mod tests {
         let told = (0..1_000).filter(|&number| {
             let mut random = Random::new(number);
             let w = Q4_K.blocks(&mut random, 1, trained_scale);
-            let x: Vec<f32> = (0..PLACES).map(|_| oracle::inputs::reading(&mut random)).collect();
+            let x: Vec<f32> = (0..PLACES)
+                .map(|_| oracle::inputs::reading(&mut random))
+                .collect();
             let block = quantize_block_q8(&x).expect("256 readings");
             let [weights, readings] = order_of(&mut random);
             let mut qs = moved_block(&block, &readings);
-            let sums = std::array::from_fn(|j| qs.qs()[32 * j..][..32].iter().map(|&q| i32::from(q)).sum());
+            let sums = std::array::from_fn(|j| {
+                qs.qs()[32 * j..][..32].iter().map(|&q| i32::from(q)).sum()
+            });
             qs = Q8Block::from_parts(qs.d(), *qs.qs(), sums, qs.count());
             dot_q4k_q8_block(&w, &block, PLACES)
                 != dot_q4k_q8_block(&moved_weights(&Q4_K, &w, &weights), &qs, PLACES)

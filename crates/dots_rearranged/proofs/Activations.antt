@@ -1,24 +1,23 @@
 -- Readings that are moved before they are quantised: the largest magnitude, and so the scale, is the same, and the quants are moved alike. Assumes nothing.
-use mathlib.Core.Path.{_≡_, refl, sym, ap, _∙_, subst}
+use mathlib.Core.Path.{_≡_, refl, sym, ap, _∙_}
 use mathlib.Core.Bool.{cond}
 use mathlib.Core.List.{List}
 use Prim.Native.Nat.{ℕ, _+_, _*_, _/_, _≤_, _<_}
 use native.Mathlib.Omega.{arith}
 use borrow.Author.Tests.{lt-ltb, le-ltb}
 use lib.Dec.{T, ltb}
-use lib.IntN.{ℤ, pos}
-use lib.ListN.{length, getD, take, drop, length-drop}
+use lib.IntN.{pos}
+use lib.ListN.{length, getD, drop, length-drop}
 use lib.Seq.{length-take-le}
-use lib.Ieee.{Float, nan, binary32, fits, mul}
+use lib.Ieee.{Float, nan, binary32, fits}
 use Rattle.memory.specs.Lists.{table, part}
 use Rattle.memory.proofs.Filled.{length-table, getD-table, table-ext, part-at}
 use Rattle.layouts.specs.declared.format.FormatK.{FormatK}
-use Rattle.readings.specs.Readings.{largest, scaleQ8, inverse, quantQ8}
+use Rattle.readings.specs.Readings.{largest, scaleQ8, inverse}
 use Rattle.readings.proofs.Peaks.{peak, peak-same}
 use Rattle.readings.proofs.Largest.{unitsOf, unitsAt, largest-measured, same-size}
-use Rattle.dots_activation.specs.declared.block.Q8Block.{Q8Block}
 use Rattle.dots_activation.specs.Whole.{elem}
-use Rattle.dots_activation.specs.Blocks.{quantAt, quantsOf, sumOf32, sumsOf, blockOf}
+use Rattle.dots_activation.specs.Blocks.{quantAt, quantsOf, sumsOf, blockOf}
 use Rattle.dots_rearranged.specs.Orders.{from}
 use Rattle.dots_rearranged.specs.Moved.{run, Rearrangements, ofBlock, movedReadings, movedBlock}
 use Rattle.dots_rearranged.specs.Laws.{Singles}

@@ -1,15 +1,14 @@
 -- What the block dots say of moved weights and a moved activation block, refusals and all. Assumes nothing.
-use mathlib.Core.Path.{_≡_, refl, sym, ap, fun-ext, _∙_}
+use mathlib.Core.Path.{_≡_, refl, ap, fun-ext}
 use mathlib.Core.Bool.{Bool, true, false, cond}
 use mathlib.Core.List.{List}
-use Prim.Native.Nat.{ℕ, _+_, _*_, _/_, _≤_, _<_, min}
+use Prim.Native.Nat.{ℕ, _/_, _≤_, _<_, min}
 use native.Mathlib.Nat.{mul-zero, zero-mul, one-mul, zero-add}
 use native.Mathlib.Omega.{arith}
 use borrow.Author.Tests.{lt-ltb, ltb-false, eqb-true}
 use lib.Dec.{eqb, lit<}
 use lib.IntN.{ℤ, pos}
-use lib.ListN.{length, getD, take}
-use lib.Ieee.{Float}
+use lib.ListN.{length, take}
 use Rattle.refusals.specs.declared.Refusal.{Refusal}
 use Rattle.refusals.specs.Said.{Said, value}
 use Rattle.refusals.specs.Refusals.{given}

@@ -1,20 +1,20 @@
 -- The block dots of a moved block and a moved activation block. Assumes nothing.
 use mathlib.Core.Path.{_≡_, refl, sym, ap, _∙_}
-use mathlib.Core.Bool.{Bool, true, false, not, cond}
+use mathlib.Core.Bool.{Bool, true, false, cond}
 use mathlib.Core.List.{List}
-use Prim.Native.Nat.{ℕ, zero, suc, _+_, _*_, _/_, _%_, _≤_, _<_, min}
+use Prim.Native.Nat.{ℕ, zero, suc, _+_, _*_, _/_, _<_}
 use native.Mathlib.Omega.{arith}
 use lib.IntN.{ℤ, pos, _*ℤ_}
 use lib.Ieee.{Float, binary32, sub}
 use Rattle.memory.specs.Lists.{every}
 use Rattle.layouts.specs.Formats.{hasMinimums, runLength}
-use Rattle.layouts.specs.K.{quantK, scaleIn, scaleK, minimumQ4K, dOf, dminOf}
+use Rattle.layouts.specs.K.{quantK, scaleIn, scaleK, dOf, dminOf}
 use Rattle.layouts.specs.declared.format.FormatK.{FormatK}
-use Rattle.dots_activation.specs.Whole.{elem, sumℤ, eqZ}
+use Rattle.dots_activation.specs.Whole.{elem, eqZ}
 use Rattle.dots_activation.specs.Blocks.{sumOf32, rightAt, sumsRight}
 use Rattle.dots_activation.proofs.Ranges.{sum-same}
 use Rattle.dots_whole.specs.Sums.{weighedAt, wholeSum, minimumSum}
-use Rattle.dots_integer.specs.Dots.{scaledSum, scaledDot, blockDot, sumsServe}
+use Rattle.dots_integer.specs.Dots.{scaledSum, blockDot, sumsServe}
 use Rattle.dots_rearranged.specs.Orders.{from}
 use Rattle.dots_rearranged.specs.Moved.{run, Rearrangements}
 use Rattle.dots_rearranged.specs.Laws.{Moved}

@@ -1,6 +1,6 @@
 -- What is read back of a byte that is put together of nibbles or of fields. Assumes nothing.
 use mathlib.Core.Path.{_≡_, refl, sym, ap, _∙_}
-use Prim.Native.Nat.{ℕ, zero, suc, _+_, _*_, _/_, _%_, _^_, _≤_, _<_}
+use Prim.Native.Nat.{ℕ, zero, suc, _+_, _*_, _/_, _%_, _^_, _<_}
 use native.Mathlib.Nat.{zero-add, mul-assoc, mod-eq-of-lt, div-eq-of-lt, div-one, add-mul-mod-self-left, add-mul-div-left, div-div-eq-div-mul, pow-zero, pow-succ'}
 use native.Mathlib.Omega.{arith}
 use Rattle.layouts.specs.Of32.{nibble}

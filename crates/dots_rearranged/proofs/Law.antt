@@ -1,6 +1,4 @@
 -- The law, of every format and every rearrangement inside its runs. Assumes nothing.
-use mathlib.Core.List.{List}
-use Prim.Native.Nat.{ℕ}
 use Rattle.dots_rearranged.specs.Laws.{RearrangementLaw}
 use Rattle.dots_rearranged.proofs.Gathered.{sum-rearranged}
 use Rattle.dots_rearranged.proofs.Weights.{weights-moved}

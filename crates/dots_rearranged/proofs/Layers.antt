@@ -1,35 +1,33 @@
 -- The integer layers, every row of whose readings and weights is moved alike. Assumes nothing.
 use Prim.{Unit}
 use mathlib.Core.Path.{_≡_, refl, sym, ap, fun-ext, _∙_}
-use mathlib.Core.Bool.{Bool, true, false, cond}
 use mathlib.Core.List.{List, _++_}
-use Prim.Native.Nat.{ℕ, zero, suc, _+_, _-_, _*_, _/_, _%_, _≤_, _<_, min}
+use Prim.Native.Nat.{ℕ, zero, suc, _+_, _*_, _/_, _%_, _≤_, _<_}
 use native.Mathlib.Nat.{le-refl, not-suc-le-zero, mul-zero, mul-comm, mul-assoc, mul-add, add-mul, add-assoc, mul-add-mod-self-right, div-lt-iff-lt-mul, mod-lt}
 use native.Mathlib.Omega.{arith}
 use lib.Arith.{digits-lt}
-use lib.ListN.{length, getD, take, drop, length-take, length-drop}
+use lib.ListN.{length, getD, drop, length-take, length-drop}
 use lib.Seq.{ext-getD}
 use lib.Ieee.{Float, nan}
 use Rattle.refusals.specs.Said.{Said, value, refused, done}
 use Rattle.refusals.specs.Refusals.{carriedOut}
-use Rattle.memory.specs.Lists.{table, filled, part, stretchLength}
+use Rattle.memory.specs.Lists.{part, stretchLength}
 use Rattle.memory.proofs.Filled.{table-ext, part-at}
 use Rattle.memory.proofs.Parts.{within}
-use Rattle.layouts.specs.Formats.{bytesK, hasMinimums}
+use Rattle.layouts.specs.Formats.{bytesK}
 use Rattle.layouts.specs.Weights.{block}
 use Rattle.layouts.specs.declared.format.Format.the-variants.{OfK}
 use Rattle.layouts.specs.declared.format.FormatK.{FormatK}
 use Rattle.dots_activation.specs.Blocks.{blockOf}
-use Rattle.dots_integer.specs.Dots.{dotWith}
 use Rattle.dots_integer_row.specs.Rows.{blockAt}
 use Rattle.dots_kept_row.specs.declared.meeting.Meeting.{Meeting}
 use Rattle.dots_kept_row.proofs.Meets.{meets-ext}
 use Rattle.layers_shape.specs.declared.Shape.{Shape}
-use Rattle.layers_shape.specs.Shapes.{rowBytes, layerRefusal, readingRow, weightRow, outputs}
+use Rattle.layers_shape.specs.Shapes.{rowBytes, readingRow, weightRow, outputs}
 use Rattle.layers_shape.proofs.Fits.{Fits, fits}
 use Rattle.layers_integer_row.specs.Outputs.{integerDotAt, integerOutputs}
 use Rattle.layers_integer.specs.Says.{integerLayerSays}
-use Rattle.dots_rearranged.specs.Moved.{run, Rearrangements, ofBlock, movedWeights, movedReadings, movedBlock, everyRow}
+use Rattle.dots_rearranged.specs.Moved.{run, Rearrangements, ofBlock, movedWeights, movedReadings, everyRow}
 use Rattle.dots_rearranged.specs.Laws.{Singles}
 use Rattle.dots_rearranged.proofs.Places.{runs-in}
 use Rattle.dots_rearranged.proofs.Weights.{weights-long, weights-moved}

@@ -2,14 +2,13 @@
 use mathlib.Core.Path.{_≡_, refl, sym, ap, _∙_}
 use mathlib.Core.Bool.{true, false, true≢false}
 use mathlib.Core.List.{List}
-use Prim.Native.Nat.{ℕ, zero, suc, _+_, _-_, _*_, _/_, _%_, _^_, _≤_, _<_}
+use Prim.Native.Nat.{ℕ, _+_, _-_, _*_, _/_, _%_, _^_, _≤_, _<_}
 use native.Mathlib.Omega.{arith}
 use borrow.Author.Tests.{lt-ltb, le-ltb}
 use lib.Dec.{lit<}
 use lib.IntN.{pos}
 use lib.ListN.{getD}
 use Rattle.numbers.specs.Fields.{signed}
-use Rattle.layouts.specs.Of32.{nibble}
 use Rattle.layouts.specs.Formats.{bytesK, hasMinimums}
 use Rattle.layouts.specs.K.{nibblePaired, quantQ4K, quantQ5K, quantQ6K, quantK, scaleQ4K, minimumQ4K, scaleQ6K}
 use Rattle.layouts.specs.declared.format.FormatK.{FormatK}

@@ -1,32 +1,25 @@
 -- The integer dot of a row whose full blocks are moved, and the integer layers, every row of which is moved alike. Assumes nothing.
-use Prim.{Unit}
-use mathlib.Core.Path.{_≡_, refl, sym, ap, fun-ext, _∙_}
-use mathlib.Core.Bool.{Bool, true, false, cond}
+use mathlib.Core.Path.{_≡_, ap}
+use mathlib.Core.Bool.{cond}
 use mathlib.Core.List.{List}
-use Prim.Native.Nat.{ℕ, _+_, _-_, _*_, _/_, _%_, _≤_, _<_, min}
-use native.Mathlib.Nat.{le-trans, mul-le-mul-right, mul-le-mul-left, mul-add-mod-self-right, mul-assoc, mul-comm, mul-add, add-assoc}
+use Prim.Native.Nat.{ℕ, _+_, _*_, _/_, _≤_, _<_}
+use native.Mathlib.Nat.{le-trans, mul-le-mul-right}
 use native.Mathlib.Omega.{arith}
 use native.Mathlib.Decide.{decLt}
 use borrow.Author.Tests.{ltb-false}
-use lib.Dec.{ltb, eqb}
-use lib.ListN.{length, getD, take, drop, length-take, length-drop}
-use lib.Seq.{ext-getD}
+use lib.Dec.{eqb}
+use lib.ListN.{length}
 use lib.Ieee.{Float}
-use Rattle.refusals.specs.Said.{Said, value, refused, done}
-use Rattle.refusals.specs.Refusals.{given, carriedOut}
-use Rattle.memory.specs.Lists.{table, filled, part, stretchesIn, stretchLength}
-use Rattle.memory.proofs.Filled.{table-ext, part-at}
-use Rattle.memory.proofs.Parts.{within}
+use Rattle.refusals.specs.Said.{Said, value}
+use Rattle.memory.specs.Lists.{part, stretchesIn, stretchLength}
+use Rattle.memory.proofs.Filled.{table-ext}
 use Rattle.numbers.specs.Steps.{nought}
-use Rattle.layouts.specs.Formats.{bytesK, hasMinimums}
-use Rattle.layouts.specs.Weights.{block}
-use Rattle.layouts.specs.declared.format.Format.the-variants.{OfK}
+use Rattle.layouts.specs.Formats.{bytesK}
 use Rattle.layouts.specs.declared.format.FormatK.{FormatK}
 use Rattle.sums_tree.specs.Tree.{tree}
 use Rattle.dots_activation.specs.Blocks.{blockOf}
-use Rattle.dots_integer.specs.Dots.{dotWith}
 use Rattle.dots_integer_row.specs.Rows.{blockAt, integerRow, integerSays}
-use Rattle.dots_rearranged.specs.Moved.{run, Rearrangements, ofBlock, movedWeights, movedReadings, movedBlock, everyRow}
+use Rattle.dots_rearranged.specs.Moved.{run, Rearrangements, ofBlock, movedWeights, movedReadings}
 use Rattle.dots_rearranged.specs.Laws.{Singles}
 use Rattle.dots_rearranged.proofs.Weights.{weights-long, weights-behind, weights-moved}
 use Rattle.dots_rearranged.proofs.Activations.{readings-long, readings-behind, readings-moved}

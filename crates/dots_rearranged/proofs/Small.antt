@@ -1,15 +1,13 @@
 -- Moved weights are bytes, as they were. Assumes nothing.
-use mathlib.Core.Path.{_≡_}
 use mathlib.Core.Bool.{Bool, true, false, cond}
 use mathlib.Core.List.{List}
-use Prim.Native.Nat.{ℕ, zero, suc, _+_, _-_, _*_, _/_, _%_, _^_, _≤_, _<_}
+use Prim.Native.Nat.{ℕ, _+_, _-_, _*_, _/_, _%_, _≤_, _<_}
 use native.Mathlib.Omega.{arith}
 use native.Mathlib.Decide.{decLt}
 use lib.Dec.{ltb}
 use lib.ListN.{length, getD, length-take, length-drop, List·getD-eq-default}
 use Rattle.memory.specs.Lists.{part}
 use Rattle.memory.proofs.Filled.{getD-table, part-at}
-use Rattle.layouts.specs.Of32.{nibble}
 use Rattle.layouts.specs.Formats.{bytesK}
 use Rattle.layouts.specs.K.{nibblePaired}
 use Rattle.layouts.specs.Weights.{block}
