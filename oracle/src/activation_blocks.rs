@@ -277,7 +277,7 @@ impl BlockDot {
             let block = of_readings(&mut random);
             self.case(&packed[..number as usize], &block, block.count())
         });
-        let what = "a block and every n but its count, which the other side answers";
+        let what = "every n below 300 beside any block, all of which the other side answers";
         comparison.cases(what, 300 * 1_024, |number| {
             let mut random = Random::new(number);
             let block = of_readings(&mut random);

@@ -172,6 +172,7 @@ fn compare_all(calls: &[&Call]) -> ExitCode {
         differ += comparison.differ;
     }
     println!("in all: {cases} cases, {values} values compared, {differ} differ");
+    println!("{} by the documents", tally::taken());
     if differ == 0 {
         ExitCode::SUCCESS
     } else {
