@@ -28,22 +28,25 @@ const LONG: usize = 16 * PLACES;
 /// has.
 type Part = (usize, usize, usize);
 
+/// A part of no bits, for a quant that is in one.
+const NONE: Part = (0, 0, 0);
+
 /// Where each bit of a quant stands in a packed block, by the published layouts, and how many places
 /// have one scale.
 struct Quants {
     run: usize,
-    parts: fn(usize) -> Vec<Part>,
+    parts: fn(usize) -> [Part; 2],
 }
 
 fn quants(layout: &Layout) -> Quants {
     match layout.bytes {
         144 => Quants {
             run: 32,
-            parts: |place| vec![nibble(16, place)],
+            parts: |place| [nibble(16, place), NONE],
         },
         176 => Quants {
             run: 32,
-            parts: |place| vec![nibble(48, place), (16 + place % 32, place / 32, 1)],
+            parts: |place| [nibble(48, place), (16 + place % 32, place / 32, 1)],
         },
         210 => Quants {
             run: 16,
@@ -51,7 +54,7 @@ fn quants(layout: &Layout) -> Quants {
                 let (half, quarter) = (place / 128, place / 32 % 4);
                 let low = 64 * half + place % 64;
                 let high = 128 + 32 * half + place % 32;
-                vec![(low, quarter / 2 * 4, 4), (high, 2 * quarter, 2)]
+                [(low, quarter / 2 * 4, 4), (high, 2 * quarter, 2)]
             },
         },
         bytes => panic!("no format of 256 values has blocks of {bytes} bytes"),
