@@ -5,7 +5,7 @@ use mathlib.Core.List.{List}
 use Prim.Native.Nat.{ℕ, _/_, _≤_, _<_, min}
 use native.Mathlib.Nat.{mul-zero, zero-mul, one-mul, zero-add}
 use native.Mathlib.Omega.{arith}
-use borrow.Author.Tests.{lt-ltb, ltb-false, eqb-true}
+use borrow.Author.Tests.{ltb-false, eqb-true}
 use lib.Dec.{eqb, lit<}
 use lib.IntN.{ℤ, pos}
 use lib.ListN.{length, take}
@@ -21,6 +21,7 @@ use Rattle.layouts.specs.declared.format.FormatK.{FormatK}
 use Rattle.dots_activation.specs.declared.block.Q8Block.{Q8Block}
 use Rattle.dots_activation.specs.Whole.{elem}
 use Rattle.dots_activation.specs.Blocks.{pastIsZero, zerosPast, countServes}
+use Rattle.dots_activation.proofs.Past.{below-passes}
 use Rattle.dots_integer.specs.Dots.{dotWith, sumsServe, blockDotSays}
 use Rattle.dots_rearranged.specs.Orders.{from}
 use Rattle.dots_rearranged.specs.Moved.{run, Rearrangements, ofBlock, movedWeights, movedBlock}
@@ -36,7 +37,7 @@ given-same why false h = h refl
 
 -- a full block serves n, whatever its quants, and no other block does
 all-below : (qs : List ℤ) → zerosPast qs 256 ≡ true
-all-below qs = every-all (pastIsZero qs 256) 256 (λ i h. rw (lt-ltb i 256 h))
+all-below qs = every-all (pastIsZero qs 256) 256 (below-passes qs 256)
 
 count-kept : (qs qs′ : List ℤ) (count n : ℕ) → 256 ≤ n → countServes qs′ count n ≡ countServes qs count n
 unfolding countServes
