@@ -12,7 +12,6 @@ use lib.ListN.{getD, length}
 use lib.Ieee.{Float, nan, binary32, ofBits, le, add, mul}
 use mir.Syntax.{w32}
 use mir.Val.{SFits}
-use Rattle.memory.specs.Lists.{table}
 use Rattle.memory.proofs.Filled.{length-table, getD-table}
 use Rattle.memory.proofs.Every.{every-all}
 use Rattle.numbers.specs.Fields.{signed}

@@ -9,7 +9,7 @@ use layouts::Format;
 use layouts::FormatK;
 use refusals::Answer;
 ghost use mathlib.Core.Path.{_≡_};
-ghost use Prim.Native.Nat.{_+_, _≤_, _<_, min};
+ghost use Prim.Native.Nat.{_+_, _≤_, _<_};
 ghost use mathlib.Core.Bool.{true};
 ghost use lib.IntN.{pos};
 ghost use lib.ListN.{length, getD};
