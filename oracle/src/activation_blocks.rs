@@ -4,6 +4,7 @@ use crate::compare::{Compared, Comparison, Difference};
 use crate::forged_blocks::{self, sums_of, Asked, Kind};
 use crate::held;
 use crate::q5_k;
+use crate::rearranged;
 use crate::row_dots::RowDot;
 use crate::sample::{count, floats, Records};
 use jambharrow::{Q8Block, Refusal};
@@ -21,31 +22,56 @@ pub const QUANTIZE_BLOCK_Q8: Call = Call {
 
 pub const DOT_Q4K_Q8_BLOCK: Call = Call {
     name: "dot_q4k_q8_block",
-    compare: |comparison| Q4_K.compare(comparison),
+    compare: |comparison| {
+        Q4_K.compare(comparison);
+        Q4_K.compare_orders(comparison);
+    },
     sample: |records| Q4_K.sample(records),
 };
 
 pub const DOT_Q6K_Q8_BLOCK: Call = Call {
     name: "dot_q6k_q8_block",
-    compare: |comparison| Q6_K.compare(comparison),
+    compare: |comparison| {
+        Q6_K.compare(comparison);
+        Q6_K.compare_orders(comparison);
+    },
     sample: |records| Q6_K.sample(records),
 };
 
 pub const INTEGER_DOT_Q4K: Call = Call {
     name: "integer_dot_q4k",
-    compare: |comparison| INTEGER_Q4_K.compare(comparison),
+    compare: |comparison| {
+        INTEGER_Q4_K.compare(comparison);
+        rearranged::of_row_dot(
+            comparison,
+            &INTEGER_Q4_K.layout,
+            INTEGER_Q4_K.ours,
+            |random, blocks| INTEGER_Q4_K.weights(random, blocks),
+        );
+    },
     sample: |records| INTEGER_Q4_K.sample(records),
 };
 
 pub const DOT_Q5K_Q8_BLOCK: Call = Call {
     name: "dot_q5k_q8_block",
-    compare: |comparison| Q5_K.compare(comparison),
+    compare: |comparison| {
+        Q5_K.compare(comparison);
+        Q5_K.compare_orders(comparison);
+    },
     sample: |records| Q5_K.sample(records),
 };
 
 pub const INTEGER_DOT_Q5K: Call = Call {
     name: "integer_dot_q5k",
-    compare: |comparison| INTEGER_Q5_K.compare(comparison),
+    compare: |comparison| {
+        INTEGER_Q5_K.compare(comparison);
+        rearranged::of_row_dot(
+            comparison,
+            &INTEGER_Q5_K.layout,
+            INTEGER_Q5_K.ours,
+            |random, blocks| INTEGER_Q5_K.weights(random, blocks),
+        );
+    },
     sample: |records| INTEGER_Q5_K.sample(records),
 };
 
@@ -278,6 +304,25 @@ impl BlockDot {
         });
     }
 
+    /// The law of order.
+    fn compare_orders(&self, comparison: &mut Comparison) {
+        let full = |random: &mut Random| rearranged::Asked {
+            w: self.packed(random),
+            block: [full_of_readings, full_of_any_quants][random.below(2)](random),
+            n: VALUES + [0, random.below(VALUES)][random.below(2)],
+        };
+        let refused = |random: &mut Random| {
+            let mut asked = full(random);
+            match random.below(3) {
+                0 => asked.w.truncate(random.below(self.layout.bytes)),
+                1 => asked.block = with_count(&asked.block, random.below(VALUES)),
+                _ => asked.block = with_sum(&asked.block, random.below(8), 1),
+            }
+            asked
+        };
+        rearranged::of_block_dot(comparison, &self.layout, self.ours, full, refused);
+    }
+
     /// A packed block.
     fn packed(&self, random: &mut Random) -> Vec<u8> {
         let scale = BLOCK_SCALES[random.below(BLOCK_SCALES.len())];
@@ -360,6 +405,11 @@ fn places(random: &mut Random, block: &Q8Block) -> usize {
 fn of_readings(random: &mut Random) -> Q8Block {
     let len = [VALUES, random.below(VALUES + 1)][random.below(2)];
     of_rust(&row(random, len))
+}
+
+/// The Rust's block of 256 readings.
+fn full_of_readings(random: &mut Random) -> Q8Block {
+    of_rust(&row(random, VALUES))
 }
 
 /// A block that no quantizer made: any quants, with their sums, and a scale of any kind.

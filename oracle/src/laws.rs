@@ -109,7 +109,7 @@ fn turned(said: f32, other: f32) -> bool {
 
 /// Holds what the call says of the other rows to what it says: two values are to be as the law has
 /// it, and two refusals the same.
-fn held_to(
+pub fn held_to(
     said: Said,
     other: Said,
     law: fn(f32, f32) -> bool,

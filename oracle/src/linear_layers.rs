@@ -2,7 +2,7 @@
 use crate::calls::Call;
 use crate::laws;
 use crate::layers::{Kind, Layer};
-use crate::{iq4_nl, q4_0_ggml, q5_k};
+use crate::{iq4_nl, q4_0_ggml, q5_k, rearranged};
 use oracle::inputs;
 use oracle::ops::quant;
 
@@ -26,25 +26,37 @@ pub const LINEAR_Q6_K_FUSED: Call = Call {
 
 pub const LINEAR_Q4_K_INTEGER: Call = Call {
     name: "linear_q4_k_integer",
-    compare: |comparison| Q4_K_INTEGER.compare(comparison),
+    compare: |comparison| {
+        Q4_K_INTEGER.compare(comparison);
+        rearranged::of_layer(comparison, &Q4_K_INTEGER);
+    },
     sample: |records| Q4_K_INTEGER.sample(records),
 };
 
 pub const LINEAR_Q6_K_INTEGER: Call = Call {
     name: "linear_q6_k_integer",
-    compare: |comparison| Q6_K_INTEGER.compare(comparison),
+    compare: |comparison| {
+        Q6_K_INTEGER.compare(comparison);
+        rearranged::of_layer(comparison, &Q6_K_INTEGER);
+    },
     sample: |records| Q6_K_INTEGER.sample(records),
 };
 
 pub const LINEAR_Q4_K_INTEGER_RS: Call = Call {
     name: "linear_q4_k_integer_rs",
-    compare: |comparison| Q4_K_INTEGER_RS.compare(comparison),
+    compare: |comparison| {
+        Q4_K_INTEGER_RS.compare(comparison);
+        rearranged::of_layer(comparison, &Q4_K_INTEGER_RS);
+    },
     sample: |records| Q4_K_INTEGER_RS.sample(records),
 };
 
 pub const LINEAR_Q6_K_INTEGER_RS: Call = Call {
     name: "linear_q6_k_integer_rs",
-    compare: |comparison| Q6_K_INTEGER_RS.compare(comparison),
+    compare: |comparison| {
+        Q6_K_INTEGER_RS.compare(comparison);
+        rearranged::of_layer(comparison, &Q6_K_INTEGER_RS);
+    },
     sample: |records| Q6_K_INTEGER_RS.sample(records),
 };
 
@@ -77,13 +89,19 @@ pub const LINEAR_Q5_K_FUSED: Call = Call {
 
 pub const LINEAR_Q5_K_INTEGER: Call = Call {
     name: "linear_q5_k_integer",
-    compare: |comparison| Q5_K_INTEGER.compare(comparison),
+    compare: |comparison| {
+        Q5_K_INTEGER.compare(comparison);
+        rearranged::of_layer(comparison, &Q5_K_INTEGER);
+    },
     sample: |records| Q5_K_INTEGER.sample(records),
 };
 
 pub const LINEAR_Q5_K_INTEGER_RS: Call = Call {
     name: "linear_q5_k_integer_rs",
-    compare: |comparison| Q5_K_INTEGER_RS.compare(comparison),
+    compare: |comparison| {
+        Q5_K_INTEGER_RS.compare(comparison);
+        rearranged::of_layer(comparison, &Q5_K_INTEGER_RS);
+    },
     sample: |records| Q5_K_INTEGER_RS.sample(records),
 };
 

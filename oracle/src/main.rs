@@ -2,8 +2,8 @@
 //! a sample of the Rust's answers and the record files of the gate. The Rust has no Q5_K, no IQ4_NL,
 //! and no Q4_0 in GGML's order: there the other side is a reference by the published layout (`q5_k`,
 //! `iq4_nl`, `q4_0_ggml`).
-//! Nor does it say what a scale lost: that is judged by values (`narrowing`). Two laws of document 02
-//! hold ours to itself (`laws`).
+//! Nor does it say what a scale lost: that is judged by values (`narrowing`). Laws of document 02 hold
+//! ours to itself (`laws`, `rearranged`).
 mod activation_blocks;
 mod binary16;
 mod block_converters;
@@ -32,6 +32,7 @@ mod options;
 mod packed_blocks;
 mod q4_0_ggml;
 mod q5_k;
+mod rearranged;
 mod record_cases;
 mod record_damage;
 mod record_files;
@@ -52,9 +53,9 @@ use std::process::ExitCode;
 
 const USAGE: &str = "\
 oracle compare [CALL..]   compares ours with the Rust, and with a reference where it has no such
-                          call, on the calls named or on all; `canonical_dot_pub`, the fused dots
-                          and the fused layers with themselves too, by document 02's laws; `stepped`
-                          names the calls of the stepped layer; status 1 where an answer differs
+                          call, on the calls named or on all; `canonical_dot_pub`, the dots and the
+                          layers with themselves too, by document 02's laws; `stepped` names the
+                          calls of the stepped layer; status 1 where an answer differs
 oracle campaign [--minutes M] [--seed S]
                           compares every call on other inputs in each round, for so many minutes
                           (60, seed 1): counts to a call and to a refusal number; keeps the cases
