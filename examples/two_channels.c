@@ -6,18 +6,18 @@
  * channel B in places 16 to 31. The weights' nibbles are moved alike, once. The integer dot answers
  * the same bits; the fused dot, which adds floats in the order of their places, need not.
  *
- *     cc -std=c99 -o two_channels examples/two_channels.c target/staticlib/libexports.a
+ *     cc -std=c99 -I target/deliver/$(uname -m) -o two_channels examples/two_channels.c target/deliver/$(uname -m)/libjambharrow.a
  */
 #include <inttypes.h>
 #include <stdio.h>
 #include <string.h>
 
-#include "../include/jambharrow.h"
+#include "jambharrow.h"
 
-/* A row of two blocks; a block is 144 bytes to 256 places, its nibbles from byte 16 on. */
+/* A row of two blocks; a block has 256 places, and its nibbles from byte 16 on. */
 #define PLACES 512
-#define BLOCK 144
-#define BYTES (PLACES / 256 * BLOCK)
+#define BLOCK JAMBHARROW_Q4_K_BLOCK_BYTES
+#define BYTES JAMBHARROW_ROW_BYTES(Q4_K, PLACES)
 
 /* The place from which a place is filled, of the same 32. */
 static int from(int place)

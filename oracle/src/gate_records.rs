@@ -11,11 +11,12 @@ use std::io;
 use std::path::Path;
 
 /// In the container of cases, how a file is answered: as it is, at each of its cuts, in pieces of at
-/// most 1 to 7 bytes, and a thousand times, one behind the other.
+/// most 1 to 7 bytes, a thousand times, one behind the other, and with its lines put behind it.
 const AS_IT_IS: u8 = 0;
 const AT_EACH_CUT: u8 = 1;
 const IN_PIECES: u8 = 2;
 const A_THOUSAND: u8 = 3;
+const BEHIND_ITSELF: u8 = 4;
 
 /// Writes all of them, and document 01's example beside the crates too.
 pub fn write() -> io::Result<()> {
@@ -113,8 +114,8 @@ impl Container {
 }
 
 /// Every case; document 01's example at each of its cuts; files in pieces, which end with `end`, with
-/// a record of unknown kind that others follow, and with a cut record; and a thousand layers with a window each. Behind the
-/// container's files come an input that cannot be read and an output that cannot be written.
+/// a record of unknown kind that others follow, and with a cut record; a thousand layers with a window each; and a file
+/// whose lines are put behind it, so that its transcript, which is not printed, ends with `stop`. Behind the container's files come an input that cannot be read and an output that cannot be written.
 fn cases() -> (Vec<u8>, String) {
     let mut container = Container {
         bytes: Vec::new(),
@@ -141,6 +142,8 @@ fn cases() -> (Vec<u8>, String) {
     }
     container.hold(A_THOUSAND, &example);
     container.answer(&example.repeat(1_000));
+    container.hold(BEHIND_ITSELF, &example);
+    container.say("", 1);
     container.say("", 2);
     container.say("", 2);
     (container.bytes, container.text)

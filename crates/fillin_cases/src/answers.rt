@@ -65,6 +65,25 @@ pub(crate) fn answer_file(number: u64, file: &[u8], times: usize, most: usize) -
     answer_stored(number, most)
 }
 
+// Answers a file whose lines are put behind it, where they are read on as what they are not, a record: so lines are
+// written before more is read. The number of the next answer.
+pub(crate) fn answer_behind_itself(number: u64, file: &[u8]) -> u64 {
+    store(file, 1);
+    let input = os::open_read(&PLACE);
+    let output = os::open_append(&PLACE);
+    let next = answer(
+        number,
+        Desk {
+            input,
+            output,
+            most: LARGE,
+        },
+    );
+    libc::close(output);
+    libc::close(input);
+    next
+}
+
 // Answers an input that cannot be read, and then what is stored to an output that cannot be written.
 pub(crate) fn answer_neither(number: u64) {
     let unreadable = Desk {

@@ -1,15 +1,18 @@
 // The files of a container, one after the other.
 use crate::answers::LARGE;
+use crate::answers::answer_behind_itself;
 use crate::answers::answer_file;
 use numbers::u32_at;
 
 // How a file is answered: at each of its cuts, from no bytes to all of them; with at most 1 byte to a read, then 2, and
-// so on; a thousand times, one behind the other; and otherwise as it is.
+// so on; a thousand times, one behind the other; with its lines put behind it; and otherwise as it is.
 const AT_EACH_CUT: u8 = 1;
 
 const IN_PIECES: u8 = 2;
 
 const A_THOUSAND: u8 = 3;
+
+const BEHIND_ITSELF: u8 = 4;
 
 // The bytes of a piece at most: one more than the length and the kind have.
 const MOST_PIECE: usize = 7;
@@ -40,6 +43,7 @@ fn answer_so(way: u8, number: u64, file: &[u8]) -> u64 {
         AT_EACH_CUT => answer_cuts(number, file),
         IN_PIECES => answer_pieces(number, file),
         A_THOUSAND => answer_file(number, file, 1_000, LARGE),
+        BEHIND_ITSELF => answer_behind_itself(number, file),
         _ => answer_file(number, file, 1, LARGE),
     }
 }

@@ -34,19 +34,17 @@ impl Counter {
         }
     }
 
-    // After so many windows.
+    // After so many windows: the latest thousand is shown, where it was not yet.
     pub(crate) fn after(mut self, windows: u64) -> Self {
         if !self.wanted {
             return self;
         }
-        if windows % STEP != 0 {
+        let full = windows - windows % STEP;
+        if full == self.shown {
             return self;
         }
-        if windows == self.shown {
-            return self;
-        }
-        show(windows);
-        self.shown = windows;
+        show(full);
+        self.shown = full;
         self
     }
 
