@@ -1,10 +1,9 @@
 //! Ours, and no part of vitni-tensor: it stands for what the Rust does not have, IQ4_NL, as plain
 //! loops, so that ours is measured beside such code. The search for the nearest value halves the
-//! table, as GGML's does. The shape of the layer is of `src/ops/quant.rs` of vitni-tensor, copyright
-//! 2026 vitnify, under the Apache License, Version 2.0 (LICENSE, NOTICE); changed are the decoder that
-//! it calls, and the names.
+//! table, as GGML's does.
+use crate::decoded_first::{linear_cpu, Layer};
 use oracle::error::{Error, Result};
-use oracle::ops::quant::{canonical_dot_pub, reach::f16_to_f32};
+use oracle::ops::quant::reach::f16_to_f32;
 
 const BLOCK_BYTES: usize = 18;
 const BLOCK_NUMEL: usize = 32;
@@ -79,30 +78,20 @@ pub fn quantize_iq4_nl(data: &[f32], scale: u16) -> Result<Vec<u8>> {
 
 pub fn linear_iq4_nl_cpu(
     x: &[f32],
-    w_iq4: &[u8],
+    w: &[u8],
     y_out: &mut [f32],
     batch: usize,
     in_feat: usize,
     out_feat: usize,
 ) -> Result<()> {
-    if in_feat % BLOCK_NUMEL != 0 {
-        return Err(Error::Internal("IQ4_NL: in_feat must be multiple of 32"));
-    }
-    if w_iq4.len() != out_feat * (in_feat / BLOCK_NUMEL) * BLOCK_BYTES {
-        return Err(Error::Internal("IQ4_NL: weight blob length mismatch"));
-    }
-    if x.len() != batch * in_feat || y_out.len() != batch * out_feat {
-        return Err(Error::Internal("IQ4_NL: x or y_out size mismatch"));
-    }
-    let w_f32 = dequantize_iq4_nl(w_iq4)?;
-    for b in 0..batch {
-        for o in 0..out_feat {
-            let w_row = &w_f32[o * in_feat..(o + 1) * in_feat];
-            let x_row = &x[b * in_feat..(b + 1) * in_feat];
-            y_out[b * out_feat + o] = canonical_dot_pub(x_row, w_row, in_feat);
-        }
-    }
-    Ok(())
+    let layer = Layer {
+        x,
+        w,
+        batch,
+        in_feat,
+        out_feat,
+    };
+    linear_cpu(dequantize_iq4_nl, layer, y_out)
 }
 
 /// What stands beside ours has to answer as ours does: otherwise its time says nothing.

@@ -5,6 +5,7 @@ mod block_converters;
 mod block_decoders;
 mod block_quantizers;
 mod calls;
+mod decoded_first;
 mod fixed_order_sums;
 mod floors;
 mod fused_dots;

@@ -2,11 +2,9 @@
 //! in the shape that the Rust's calls of Q4_0 have, so that ours is measured beside such code. That
 //! shape is of `src/ops/quant.rs` of vitni-tensor, copyright 2026 vitnify, under the Apache License,
 //! Version 2.0 (LICENSE, NOTICE); changed are the places of the nibbles, and the names.
+use crate::decoded_first::{linear_cpu, Layer};
 use oracle::error::{Error, Result};
-use oracle::ops::quant::{
-    canonical_dot_pub,
-    reach::{f16_to_f32, f32_to_f16},
-};
+use oracle::ops::quant::reach::{f16_to_f32, f32_to_f16};
 
 const BLOCK_BYTES: usize = 18;
 const BLOCK_NUMEL: usize = 32;
@@ -66,30 +64,20 @@ pub fn quantize_q4_0_ggml(data: &[f32]) -> Result<Vec<u8>> {
 
 pub fn linear_q4_0_ggml_cpu(
     x: &[f32],
-    w_q4: &[u8],
+    w: &[u8],
     y_out: &mut [f32],
     batch: usize,
     in_feat: usize,
     out_feat: usize,
 ) -> Result<()> {
-    if in_feat % BLOCK_NUMEL != 0 {
-        return Err(Error::Internal("Q4_0: in_feat must be multiple of 32"));
-    }
-    if w_q4.len() != out_feat * (in_feat / BLOCK_NUMEL) * BLOCK_BYTES {
-        return Err(Error::Internal("Q4_0: weight blob length mismatch"));
-    }
-    if x.len() != batch * in_feat || y_out.len() != batch * out_feat {
-        return Err(Error::Internal("Q4_0: x or y_out size mismatch"));
-    }
-    let w_f32 = dequantize_q4_0_ggml(w_q4)?;
-    for b in 0..batch {
-        for o in 0..out_feat {
-            let w_row = &w_f32[o * in_feat..(o + 1) * in_feat];
-            let x_row = &x[b * in_feat..(b + 1) * in_feat];
-            y_out[b * out_feat + o] = canonical_dot_pub(x_row, w_row, in_feat);
-        }
-    }
-    Ok(())
+    let layer = Layer {
+        x,
+        w,
+        batch,
+        in_feat,
+        out_feat,
+    };
+    linear_cpu(dequantize_q4_0_ggml, layer, y_out)
 }
 
 /// What stands beside ours has to answer as ours does: otherwise its time says nothing.
