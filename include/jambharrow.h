@@ -10,8 +10,9 @@
  * whose four calls are jambharrow_open, _piece, _run and _close, and no Q5_K, whose calls are named
  * after those of Q4_K and take the same parameters. Nor has it Q4_0 in GGML's order, whose calls
  * are named after those of Q4_0, with `_ggml`, and take the same parameters, nor converters between
- * the two orders, nor IQ4_NL, whose calls are named after those of Q4_0. A slice is a pointer and, right behind it, how many elements it has. Sizes and
- * counts are jambharrow_size, of 64 bits on every processor.
+ * the two orders, nor IQ4_NL, whose calls are named after those of Q4_0. A slice is a pointer and,
+ * right behind it, how many elements it has. Sizes and counts are jambharrow_size, of 64 bits on
+ * every processor.
  *
  * What a pointer is. A slice's pointer may be null where its number of elements is 0; every other
  * pointer is to the one value or the array that its type says, and may not be null. A pointer is
