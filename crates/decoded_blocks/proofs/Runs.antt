@@ -11,10 +11,12 @@ use Rattle.memory.specs.Lists.{table}
 use Rattle.memory.proofs.Filled.{getD-table, table-ext, part-at, filled-all, part-length}
 use Rattle.memory.proofs.Parts.{InParts, parts-done}
 use Rattle.layouts.specs.Formats.{hasMinimums}
-use Rattle.layouts.specs.K.{quantK, dScale, dminMinimum, valueOf, valueK}
+use Rattle.layouts.specs.K.{quantK, dScale, valueOf, valueK}
 use Rattle.layouts.specs.declared.format.FormatK.{FormatK}
 use Rattle.layouts.specs.declared.format.FormatK.the-variants.{Q4K, Q6K}
 use Rattle.layouts.proofs.Minimums.{same-value}
+use Rattle.k_scales.specs.Both.{scaleThenMinimum}
+use Rattle.k_scales.proofs.Both.{scale-at, minimum-at}
 
 -- run e of a block of so many is lent, of its whole numbers and of the output: each part has 16 places
 pub run-lengths : {A : Type 0} (q : List A) (out : List Float) (runs e : ℕ) → length q ≡ 16 * runs → length out ≡ 16 * runs → e < runs
@@ -32,12 +34,12 @@ pub of-laid-out : (f g : FormatK) (bs : List ℕ) (q : ℕ → ℤ) → hasMinim
 of-laid-out f g bs q e W = table-ext _ _ 256 (λ i h. ap (valueOf f bs i) (W i h) ∙ same-value f g bs i (quantK g bs i) e)
 
 module _ (bs : List ℕ) (e l n : ℕ) (k : n ≡ 16) (u : e < 16) (v : l < 16) where
-  pub sub-block-run : (s m : List Float) (q : List ℕ) → s ≡ table (dScale Q4K bs) 8 → m ≡ table (dminMinimum bs) 8
-      → sub binary32 (mul binary32 (getD s (e / 2) nan) (ofInt binary32 (pos (getD (take n (drop (16 * e) q)) l 0)))) (getD m (e / 2) nan) ≡ valueOf Q4K bs (16 * e + l) (pos (getD q (16 * e + l) 0))
-  sub-block-run s m q S M =
+  pub sub-block-run : (s : List Float) (q : List ℕ) → s ≡ table (scaleThenMinimum bs) 16
+      → sub binary32 (mul binary32 (getD s (e / 2) nan) (ofInt binary32 (pos (getD (take n (drop (16 * e) q)) l 0)))) (getD s (e / 2 + 8) nan) ≡ valueOf Q4K bs (16 * e + l) (pos (getD q (16 * e + l) 0))
+  sub-block-run s q S =
       let half : e / 2 < 8 = omega arith in
       let j : (16 * e + l) / 32 ≡ e / 2 = omega arith in
-      rw (j, k, part-at q (16 * e) 16 l 0 v, S, M, getD-table (dScale Q4K bs) 8 (e / 2) nan half, getD-table (dminMinimum bs) 8 (e / 2) nan half)
+      rw (j, k, part-at q (16 * e) 16 l 0 v, scale-at bs (e / 2) half s S, minimum-at bs (e / 2) half s S)
 
   pub run-of-16 : (s : List Float) (q : List ℤ) → s ≡ table (dScale Q6K bs) 16
       → mul binary32 (getD s e nan) (ofInt binary32 (getD (take n (drop (16 * e) q)) l (pos 0))) ≡ valueOf Q6K bs (16 * e + l) (getD q (16 * e + l) (pos 0))

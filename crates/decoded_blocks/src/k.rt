@@ -28,17 +28,11 @@ fn decode_sub_blocks(block: &[u8], q: &[u8], out: &mut [f32])
     ensures { λ _. ⌜ now (out .exit)
         ≡ table (λ i. valueOf FormatK.Q4K (now (block .entry)) i (pos (getD (now (q .entry)) i 0))) 256 ⌝ }
 {
-    let scales = k_scales::scales_q4k(block);
-    let minimums = k_scales::minimums_q4k(block);
+    let both = k_scales::scales_and_minimums(block);
     for e in 0..16usize {
         let at = 16 * e;
         let end = at + 16;
-        scale_run_less(
-            &q[at..end],
-            scales[e / 2],
-            minimums[e / 2],
-            &mut out[at..end],
-        );
+        scale_run_less(&q[at..end], both[e / 2], both[e / 2 + 8], &mut out[at..end]);
     }
 }
 

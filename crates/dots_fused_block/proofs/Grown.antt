@@ -3,26 +3,27 @@ use mathlib.Core.Path.{_≡_, sym, ap, _∙_}
 use Prim.Native.Nat.{ℕ, _+_, _*_, _/_, _%_, _≤_, _<_}
 use native.Mathlib.Nat.{zero-mul, le-of-eq}
 use native.Mathlib.Omega.{arith}
-use mathlib.Core.Bool.{true}
 use mathlib.Core.List.{List}
 use lib.IntN.{ℤ, pos}
 use lib.ListN.{length, getD}
 use lib.Seq.{take-all}
 use lib.Ieee.{Float, nan, binary32, mul}
 use Rattle.memory.specs.Lists.{table, part}
-use Rattle.memory.proofs.Filled.{getD-table, part-at}
+use Rattle.memory.proofs.Filled.{part-at}
 use Rattle.layouts.specs.Formats.{bytesK, hasMinimums}
-use Rattle.layouts.specs.K.{quantK, valueK, dScale, dminMinimum, valueOf}
+use Rattle.layouts.specs.K.{quantK, valueK, dScale, valueOf}
 use Rattle.layouts.specs.Weights.{weightAt}
 use Rattle.layouts.specs.declared.format.FormatK.{FormatK}
 use Rattle.layouts.specs.declared.format.FormatK.the-variants.{Q4K, Q6K}
 use Rattle.layouts.specs.declared.format.Format.the-variants.{OfK}
 use Rattle.layouts.proofs.Minimums.{same-value}
+use Rattle.k_scales.specs.Both.{scaleThenMinimum}
+use Rattle.k_scales.proofs.Both.{scale-at, minimum-at}
 use Rattle.decoded_blocks.proofs.Runs.{run-of-16}
 use Rattle.sums_lanes.specs.Lanes.{lanesFrom}
 use Rattle.sums_lanes.proofs.LaneLaws.{lanes-cong, lanes-block}
 use Rattle.dots_fused_block.specs.Terms.{terms}
-use Rattle.dots_fused_block.specs.Inner.{blockTerms, subBlockTerms, scaledTerms, runTerms}
+use Rattle.dots_fused_block.specs.Inner.{blockTerms, subBlockTerms, runTerms}
 
 -- a block is a run of one block
 pub one-block : (f : FormatK) (bs : List ℕ) (i : ℕ) → length bs ≡ bytesK f → i < 256 → weightAt (OfK f) bs i ≡ valueK f bs i
@@ -54,19 +55,19 @@ grown-done l out p k count e h g = let d : e ≡ count = omega arith in rw d at 
 pub sub-block-part : (x : List Float) (q : List ℕ) (d m : Float) (s k i : ℕ) → i < k → subBlockTerms (part x s k) (part q s k) d m i ≡ subBlockTerms x q d m (s + i)
 sub-block-part x q d m s k i h = rw (part-at x s k i nan h, part-at q s k i 0 h)
 
--- sub-block j of eight, from `at` on
-pub sub-block-terms : (x : List Float) (q : List ℕ) (s m : List Float) (at j k i : ℕ) → at ≡ 32 * j → k ≡ 32 → i < k
-    → subBlockTerms (part x at k) (part q at k) (getD s j nan) (getD m j nan) i ≡ scaledTerms x q s m (32 * j + i)
-sub-block-terms x q s m at j k i A K h =
-    let e : (32 * j + i) / 32 ≡ j = omega arith in
-    rw (A, sub-block-part x q (getD s j nan) (getD m j nan) (32 * j) k i h, e)
-
 pub run-part : (x : List Float) (q : List ℤ) (d : Float) (s k i : ℕ) → i < k → runTerms (part x s k) (part q s k) d i ≡ runTerms x q d (s + i)
 run-part x q d s k i h = rw (part-at x s k i nan h, part-at q s k i (pos 0) h)
 
 -- ---- a block's terms
 
 module _ (x : List Float) (bs : List ℕ) where
+  -- sub-block j of eight, from `at` on
+  pub sub-block-terms : (at j k i : ℕ) (s : List Float) (q : List ℕ) → at ≡ 32 * j → k ≡ 32 → j < 8 → i < k → s ≡ table (scaleThenMinimum bs) 16
+      → subBlockTerms (part x at k) (part q at k) (getD s j nan) (getD s (j + 8) nan) i ≡ blockTerms Q4K x bs (λ n. pos (getD q n 0)) (32 * j + i)
+  sub-block-terms at j k i s q A K u h S =
+      let e : (32 * j + i) / 32 ≡ j = omega arith in
+      rw (A, sub-block-part x q (getD s j nan) (getD s (j + 8) nan) (32 * j) k i h, e, scale-at bs j u s S, minimum-at bs j u s S)
+
   -- run e of sixteen
   pub run-terms : (e k i : ℕ) (s : List Float) (q : List ℤ) → k ≡ 16 → e < 16 → i < k → s ≡ table (dScale Q6K bs) 16
       → runTerms (part x (16 * e) k) (part q (16 * e) k) (getD s e nan) i ≡ blockTerms Q6K x bs (λ n. getD q n (pos 0)) (16 * e + i)
@@ -78,13 +79,3 @@ module _ (x : List Float) (bs : List ℕ) where
   laid-out f g l q e b W =
       lanes-cong l _ _ 256
       (λ i h. ap (mul binary32 (getD x i nan)) (ap (valueOf f bs i) (W i h) ∙ same-value f g bs i (quantK g bs i) e ∙ sym (one-block g bs i b h)))
-
-  -- and of eight products d*scale and eight products dmin*minimum too, where the format has minimums
-  pub scaled-out : (g : FormatK) (l : List Float) (q : List ℕ) (s m : List Float) → hasMinimums g ≡ true → length bs ≡ bytesK g → s ≡ table (dScale Q4K bs) 8 → m ≡ table (dminMinimum bs) 8
-      → ((i : ℕ) → i < 256 → pos (getD q i 0) ≡ quantK g bs i) → lanesFrom l (scaledTerms x q s m) 256 ≡ lanesFrom l (terms g x bs) 256
-  scaled-out g l q s m e b S M W =
-      lanes-cong l _ (blockTerms Q4K x bs (λ i. pos (getD q i 0))) 256
-      (λ i h.
-      let u : i / 32 < 8 = omega arith in
-      rw (S, M, getD-table (dScale Q4K bs) 8 (i / 32) nan u, getD-table (dminMinimum bs) 8 (i / 32) nan u))
-      ∙ laid-out Q4K g l (λ i. pos (getD q i 0)) e b W

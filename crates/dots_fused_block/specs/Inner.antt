@@ -1,6 +1,6 @@
 -- What the contracts of the inner functions cite: the terms of a block whose whole numbers are laid out. Definitions
 -- only.
-use Prim.Native.Nat.{ℕ, _/_}
+use Prim.Native.Nat.{ℕ}
 use mathlib.Core.List.{List}
 use lib.IntN.{ℤ, pos}
 use lib.ListN.{getD}
@@ -17,11 +17,6 @@ blockTerms f x bs q i = mul binary32 (getD x i nan) (valueOf f bs i (q i))
 abbrev pub subBlockTerms : List Float → List ℕ → Float → Float → ℕ → Float
 subBlockTerms x q d m i = mul binary32 (getD x i nan)
     (sub binary32 (mul binary32 d (ofInt binary32 (pos (getD q i 0)))) m)
-
--- the terms of a block over its whole numbers q, s being its eight products d*scale and m its eight products
--- dmin*minimum: a sub-block has 32 of them
-abbrev pub scaledTerms : List Float → List ℕ → List Float → List Float → ℕ → Float
-scaledTerms x q s m i = subBlockTerms x q (getD s (i / 32) nan) (getD m (i / 32) nan) i
 
 -- the terms of a run over its whole numbers q, d being its product d*scale: reading i multiplied by d*q
 abbrev pub runTerms : List Float → List ℤ → Float → ℕ → Float

@@ -10,33 +10,22 @@ ghost use Rattle.sums_lanes.specs.Lanes.{lanesFrom};
 ghost use Rattle.dots_fused_block.specs.Terms.{terms};
 
 // The lanes `l` after the 256 terms of a block. Formats with minimums share one worker, called in each one's branch.
-// Scales and minimums come before whole numbers, which then need not wait in memory for their calls.
+// Whole numbers are laid out before the worker makes their scales: x86-64 has more to do at once then.
 pub fn add_block(format: FormatK, l: [f32; 8], x: &[f32], block: &[u8]) -> [f32; 8]
     requires { ⌜ (length (now x) ≡ 256) × (length (now block) ≡ bytesK format) ⌝ }
     ensures { λ r. ⌜ r ≡ lanesFrom l (terms format (now (x .entry)) (now (block .entry))) 256 ⌝ }
 {
     match format {
-        FormatK::Q4K | FormatK::Q5K => {
-            let scales = k_scales::scales_q4k(block);
-            let minimums = k_scales::minimums_q4k(block);
+        FormatK::Q4K => {
+            let q = k_quants::quants_q4k(block);
             let mut out = l;
-            if let FormatK::Q5K = format {
-                add_sub_blocks(
-                    &mut out,
-                    x,
-                    &k_quants::quants_q5k(block),
-                    &scales,
-                    &minimums,
-                );
-            } else {
-                add_sub_blocks(
-                    &mut out,
-                    x,
-                    &k_quants::quants_q4k(block),
-                    &scales,
-                    &minimums,
-                );
-            }
+            add_sub_blocks(&mut out, x, block, &q);
+            out
+        }
+        FormatK::Q5K => {
+            let q = k_quants::quants_q5k(block);
+            let mut out = l;
+            add_sub_blocks(&mut out, x, block, &q);
             out
         }
         FormatK::Q6K => {

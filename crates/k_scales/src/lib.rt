@@ -2,7 +2,6 @@
 mod k;
 
 pub use k::minimum_q4k;
-pub use k::minimums_q4k;
 pub use k::scale_q4k;
-pub use k::scales_q4k;
+pub use k::scales_and_minimums;
 pub use k::scales_q6k;

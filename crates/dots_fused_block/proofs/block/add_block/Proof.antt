@@ -5,67 +5,60 @@ use lib.IntN.{pos}
 use lib.ListN.{getD}
 use Rattle.layouts.specs.Formats.{bytesK, hasMinimums}
 use Rattle.layouts.specs.declared.format.FormatK.the-variants.{Q4K, Q5K, Q6K}
-use Rattle.layouts.specs.declared.format.Format.the-variants.{OfK}
-use Rattle.layouts.proofs.Sizes.{sizes}
-use Rattle.layouts.proofs.Minimums.{with-minimums, left-q4k}
 use Rattle.k_quants.proofs.LaidOut.{laid-out-at}
-use Rattle.dots_fused_block.proofs.Grown.{laid-out, scaled-out}
+use Rattle.dots_fused_block.proofs.Grown.{laid-out}
 use borrow.Author.Needs.{needs}
 use Rattle.dots_fused_block.proofs.block.add_block.Statement.{statement}
 use Rattle.dots_fused_block.proofs.block.add_block.Tie as tie
 
-scales-q4k-requires : tie.Need-scales-q4k-requires
-scales-q4k-requires c κs = let t = c .before .before .before in omega (arith, t .pre .1, sizes (OfK (t .args .format)))
+quants-q4k-requires : tie.Need-quants-q4k-requires
+quants-q4k-requires c κs = c .before .before .before .before .pre .1 ∙ ap bytesK (c .enum-told .given .1)
 
-minimums-q4k-requires : tie.Need-minimums-q4k-requires
-minimums-q4k-requires c κs = let t = c .before .before .before .before in omega (arith, t .pre .1, sizes (OfK (t .args .format)))
-
--- the other arm is Q4_K's
-left : (c : tie.At-match2-keys2) → c .before .before .before .before .before .before .args .format ≡ Q4K
-left c = let m = c .before .before .before in let f = m .before .before .before .args .format in left-q4k f (c .match2 .keys2) (with-minimums f (m .match .keys1))
+add-sub-blocks-requires : tie.Need-add-sub-blocks-requires
+add-sub-blocks-requires c κs =
+    let q = c .before .before in
+    let t = q .before .before .before .before .before in
+    (omega arith, t .pre .0, omega (arith, t .pre .1 ∙ ap bytesK (q .before .enum-told .given .1)), omega arith)
 
 quants-q5k-requires : tie.Need-quants-q5k-requires
-quants-q5k-requires c κs = c .before .before .before .before .before .before .before .before .pre .1 ∙ ap bytesK (c .before .enum-told .given .1)
+quants-q5k-requires c κs = c .before .before .before .before .pre .1 ∙ ap bytesK (c .enum-told2 .given .1)
 
-quants-q4k-requires : tie.Need-quants-q4k-requires
-quants-q4k-requires c κs = c .before .before .before .before .before .before .before .pre .1 ∙ ap bytesK (left (c .before))
+add-sub-blocks-requires-2 : tie.Need-add-sub-blocks-requires-2
+add-sub-blocks-requires-2 c κs =
+    let q = c .before .before in
+    let t = q .before .before .before .before .before in
+    (omega arith, t .pre .0, omega (arith, t .pre .1 ∙ ap bytesK (q .before .enum-told2 .given .1)), omega arith)
 
 quants-q6k-requires : tie.Need-quants-q6k-requires
-quants-q6k-requires c κs = c .before .before .before .before .pre .1 ∙ ap bytesK (c .enum-told2 .given .1)
+quants-q6k-requires c κs = c .before .before .before .before .pre .1 ∙ ap bytesK (c .enum-told3 .given .1)
 
 add-runs-requires : tie.Need-add-runs-requires
-add-runs-requires c κs = let t = c .before .before .before .before .before .before in (t .pre .0, t .pre .1 ∙ ap bytesK (c .before .before .enum-told2 .given .1), omega arith)
+add-runs-requires c κs = let t = c .before .before .before .before .before .before in (t .pre .0, t .pre .1 ∙ ap bytesK (c .before .before .enum-told3 .given .1), omega arith)
 
 returns : tie.Need-returns
 returns c =
-    let q = c .before .before .before .before .before in
-    let e = q .before .before in
-    let m = e .before .before in
-    let s = m .before in
-    let t = s .before .before .before .before in
+    let q = c .before .before .before .before in
+    let t = q .before .before .before .before .before in
     let a = t .args in
+    let e = q .before .enum-told .given .1 in
     c .before .add-sub-blocks .ensures
-    ∙ scaled-out (a .x .now) (a .block .now) (a .format) (a .l) (q .quants-q5k .result) (s .scales-q4k .result) (m .minimums-q4k .result) (with-minimums (a .format) (s .before .match .keys1)) (t .pre .1) (s .scales-q4k .ensures) (m .minimums-q4k .ensures)
-    (laid-out-at Q5K (a .block .now) pos 0 (e .enum-told .given .1) (q .quants-q5k .ensures) (λ i. refl))
+    ∙ laid-out (a .x .now) (a .block .now) Q4K (a .format) (a .l) (λ i. pos (getD (q .quants-q4k .result) i 0)) (ap hasMinimums e) (t .pre .1) (laid-out-at Q4K (a .block .now) pos 0 e (q .quants-q4k .ensures) (λ i. refl))
 
 returns-2 : tie.Need-returns-2
 returns-2 c =
-    let q = c .before .before .before .before .before in
-    let o = q .before .before in
-    let m = o .before in
-    let s = m .before in
-    let t = s .before .before .before .before in
+    let q = c .before .before .before .before in
+    let t = q .before .before .before .before .before in
     let a = t .args in
+    let e = q .before .enum-told2 .given .1 in
     c .before .add-sub-blocks2 .ensures
-    ∙ scaled-out (a .x .now) (a .block .now) (a .format) (a .l) (q .quants-q4k .result) (s .scales-q4k .result) (m .minimums-q4k .result) (with-minimums (a .format) (s .before .match .keys1)) (t .pre .1) (s .scales-q4k .ensures) (m .minimums-q4k .ensures)
-    (laid-out-at Q4K (a .block .now) pos 0 (left o) (q .quants-q4k .ensures) (λ i. refl))
+    ∙ laid-out (a .x .now) (a .block .now) Q4K (a .format) (a .l) (λ i. pos (getD (q .quants-q5k .result) i 0)) (ap hasMinimums e) (t .pre .1) (laid-out-at Q5K (a .block .now) pos 0 e (q .quants-q5k .ensures) (λ i. refl))
 
 returns-3 : tie.Need-returns-3
 returns-3 c =
     let q = c .before .before in
     let t = q .before .before .before .before .before in
     let a = t .args in
-    let e = q .before .enum-told2 .given .1 in
+    let e = q .before .enum-told3 .given .1 in
     c .add-runs .ensures
     ∙ laid-out (a .x .now) (a .block .now) Q6K (a .format) (a .l) (λ i. getD (q .quants-q6k .result) i (pos 0)) (ap hasMinimums e) (t .pre .1) (laid-out-at Q6K (a .block .now) (λ z. z) (pos 0) e (q .quants-q6k .ensures) (λ i. refl))
 
@@ -73,17 +66,16 @@ pub add-block-spec : {M : Type 1} → statement M
 add-block-spec =
     tie.close
     (tie.spec
-    scales-q4k-requires
-    minimums-q4k-requires
-    (λ c. search needs)
-    (λ c. search needs)
-    quants-q5k-requires
-    (λ c. search needs)
-    (λ c κs. search needs)
     (λ c. search needs)
     quants-q4k-requires
     (λ c. search needs)
-    (λ c κs. search needs)
+    (λ c. search needs)
+    add-sub-blocks-requires
+    (λ c. search needs)
+    quants-q5k-requires
+    (λ c. search needs)
+    (λ c. search needs)
+    add-sub-blocks-requires-2
     (λ c. search needs)
     quants-q6k-requires
     (λ c. search needs)
