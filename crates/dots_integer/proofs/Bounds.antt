@@ -23,6 +23,7 @@ use Rattle.layouts.specs.K.{scaleByte, scaleQ4K, nibblePaired, quantQ4K, quantQ
 use Rattle.layouts.specs.declared.format.FormatK.{FormatK}
 use Rattle.layouts.specs.declared.format.FormatK.the-variants.{Q4K, Q5K, Q6K}
 use Rattle.layouts.proofs.Quants.{nibble-small}
+use Rattle.k_quants.proofs.LaidOut.{Laid}
 use Rattle.dots_activation.specs.Whole.{elem, eqZ, Within}
 use Rattle.dots_activation.specs.Blocks.{quantAt, quantsOf, sumOf32, rightAt, blockOf, countServes, sumsRight, SmallSums}
 use Rattle.dots_activation.proofs.Magnitudes.{within, pos-within, mul-within, fits-within}
@@ -175,8 +176,8 @@ module _ (w : List ℕ) (bytes : (i : ℕ) → getD w i 0 < 256) where
   quant-within-k Q6K i = quant-q6k i
 
   -- bytes that are the quants of a block with minimums
-  pub five-bits : (f : FormatK) (q : List ℕ) → hasMinimums f ≡ true → ((i : ℕ) → i < 256 → pos (getD q i 0) ≡ quantK f w i) → FiveBits q
-  five-bits f q m e = record { small = λ i h. omega (arith, subst (Within (mostQuant f)) (sym (e i h)) (quant-within-k f i) .abs, five-bits-most f m) }
+  pub five-bits : (f : FormatK) (q : List ℕ) → hasMinimums f ≡ true → Laid f w q → FiveBits q
+  five-bits f q m l = record { small = λ i h. omega (arith, subst (Within (mostQuant f)) (sym (l .1 i (omega arith))) (quant-within-k f i) .abs, five-bits-most f m) }
 
   -- activation quants within X: the sum over at most 256 places
   pub sum-within-k : (f : FormatK) (X : ℕ) (x : List ℤ) (n : ℕ) → n ≤ 256 → ((i : ℕ) → i < n → Within X (elem x i)) → Within (256 * (mostScale f * (mostQuant f * X))) (wholeSum f w x n)

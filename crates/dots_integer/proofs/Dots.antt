@@ -1,4 +1,4 @@
--- A whole-number sum turned to a float and scaled, from what the calls gave, a block whose quants are laid out, and one whose quants are 0 from some place on. Assumes nothing.
+-- A whole-number sum turned to a float and scaled, from what the calls gave, a block whose quants are laid out, one whose products are made, and one whose quants are 0 from some place on. Assumes nothing.
 use mathlib.Core.Path.{_≡_, sym, ap, _∙_, subst}
 use mathlib.Core.Bool.{true}
 use mathlib.Core.List.{List}
@@ -6,14 +6,20 @@ use Prim.Native.Nat.{ℕ, _≤_, _<_, min}
 use native.Mathlib.Omega.{arith}
 use lib.IntN.{ℤ, pos}
 use lib.Ieee.{Float, binary32, mul, sub, ofInt}
+use Rattle.memory.specs.Lists.{table}
 use Rattle.layouts.specs.Formats.{hasMinimums}
 use Rattle.layouts.specs.K.{quantK}
 use Rattle.layouts.specs.declared.format.FormatK.{FormatK}
+use Rattle.layouts.specs.declared.format.FormatK.the-variants.{Q4K}
+use Rattle.k_quants.proofs.LaidOut.{Laid}
 use Rattle.dots_activation.specs.Whole.{elem, sumℤ}
+use Rattle.dots_activation.specs.Inner.{pairOf, PairsWithin}
 use Rattle.dots_activation.specs.Blocks.{zerosPast, countServes}
 use Rattle.dots_activation.proofs.Past.{zero-past, serves-are}
 use Rattle.dots_whole.specs.Sums.{weighedAt}
-use Rattle.dots_whole.proofs.Runs.{laid-out, sum-below}
+use Rattle.dots_whole.specs.Inner.{productAt, pairsWeighed}
+use Rattle.dots_whole.proofs.Runs.{byteOf, laid-out, sum-below}
+use Rattle.dots_whole.proofs.Lanes.{pairs-weigh}
 use Rattle.dots_integer.specs.Dots.{scaledSum, scaledDot, blockDot}
 
 -- h is the scale d, and a the float of s, which is the sum z
@@ -32,6 +38,16 @@ pub of-laid-out : (f g : FormatK) (w : List ℕ) (dx : Float) (qs sums : List �
     → scaledDot f w dx sums (sumℤ (weighedAt f w q qs) 256) ≡ blockDot g w dx qs sums 256
 unfolding blockDot
 of-laid-out f g w dx qs sums q e W = ap (scaledDot f w dx sums) (laid-out f w q qs g (quantK g w) e W) ∙ same-dot f g w dx sums _ e
+
+-- pairs p of products, each within 7936, of bytes that are the block's own quants in the format g
+pub record Made (g : FormatK) (w : List ℕ) (qs p : List ℤ) : Type 0 where
+  pub quants : List ℕ
+  pub own : Laid g w quants
+  pub pairs : (p ≡ table (pairOf (productAt quants qs)) 128) × PairsWithin 7936 p
+
+-- the dot over them
+pub of-made : {g : FormatK} {w : List ℕ} {qs p : List ℤ} (dx : Float) (sums : List ℤ) → hasMinimums g ≡ true → Made g w qs p → scaledDot Q4K w dx sums (pairsWeighed w p) ≡ blockDot g w dx qs sums 256
+of-made {g} {w} {qs} {p} dx sums e m = ap (scaledDot Q4K w dx sums) (pairs-weigh w p (m .quants) qs (m .pairs .0)) ∙ of-laid-out Q4K g w dx qs sums (byteOf (m .quants)) e (m .own .1)
 
 -- quants that are 0 from n on: the dot over all places is the dot over those below n
 pub dot-below : (f : FormatK) (w : List ℕ) (dx : Float) (qs sums : List ℤ) (n : ℕ) → n ≤ 256 → ((i : ℕ) → n ≤ i → i < 256 → elem qs i ≡ pos 0)

@@ -3,16 +3,16 @@ use dots_activation::Q8Block;
 use dots_activation::count_serves;
 use dots_activation::sums_right;
 use dots_whole::minimum_sum;
+use dots_whole::products;
 use dots_whole::sum_by_runs;
-use dots_whole::sum_by_sub_blocks;
+use dots_whole::sum_of_products;
 use layouts::Format;
 use layouts::FormatK;
 use refusals::Answer;
 ghost use mathlib.Core.Path.{_≡_};
 ghost use Prim.Native.Nat.{_+_, _≤_, _<_};
 ghost use mathlib.Core.Bool.{true};
-ghost use lib.IntN.{pos};
-ghost use lib.ListN.{length, getD};
+ghost use lib.ListN.{length};
 ghost use Rattle.refusals.specs.Said.{saidBy};
 ghost use Rattle.halves.specs.Binary16.{widened};
 ghost use Rattle.numbers.specs.Fields.{le16};
@@ -21,7 +21,8 @@ ghost use Rattle.layouts.specs.K.{dOf};
 ghost use Rattle.dots_activation.specs.Whole.{elem, sumℤ};
 ghost use Rattle.dots_activation.specs.Blocks.{SmallSums, blockIn};
 ghost use Rattle.dots_whole.specs.Sums.{weighedAt};
-ghost use Rattle.dots_whole.specs.Inner.{FiveBits};
+ghost use Rattle.dots_whole.specs.Inner.{pairsWeighed};
+ghost use Rattle.dots_activation.specs.Inner.{PairsWithin};
 ghost use Rattle.dots_integer.specs.Dots.{scaledSum, scaledDot, blockDot};
 ghost use Rattle.dots_integer.specs.Dots.{sumsServe, blockDotSays};
 
@@ -33,18 +34,17 @@ fn half_at(w: &[u8], i: usize) -> f32
     halves::f16_to_f32(numbers::le_u16(w[i], w[i + 1]))
 }
 
-// The dot of a block with minimums, whose quants are q. d and dmin are widened before the sums: behind them the
-// branches of the widening would part the sums' loads from their arithmetic.
-fn dot_of_sub_blocks(w: &[u8], q: &[u8; 256], d: f32, qs: &[i8], sums: &[i32]) -> f32
-    requires { ⌜ (16 ≤ length (now w)) × FiveBits (now q) × (length (now qs) ≡ 256) × (length (now sums) ≡ 8)
-        × SmallSums (now sums) ⌝ }
+// The dot of a block with minimums, whose products are p in pairs. d and dmin are widened before the sums: behind them
+// the branches of the widening would part the sums' loads from their arithmetic.
+fn dot_of_products(w: &[u8], p: &[i16; 128], d: f32, sums: &[i32]) -> f32
+    requires { ⌜ (16 ≤ length (now w)) × PairsWithin 7936 (now p) × (length (now sums) ≡ 8) × SmallSums (now sums) ⌝ }
     ensures { λ r. ⌜ r ≡ scaledDot FormatK.Q4K (now (w .entry)) d (now (sums .entry))
-        (sumℤ (weighedAt FormatK.Q4K (now (w .entry)) (λ i. pos (getD (now (q .entry)) i 0)) (now (qs .entry))) 256) ⌝ }
+        (pairsWeighed (now (w .entry)) (now (p .entry))) ⌝ }
 {
     let scale = half_at(w, 0) * d;
     let minimum = half_at(w, 2) * d;
     let m = numbers::whole_to_f32(minimum_sum(w, sums));
-    let a = numbers::whole_to_f32(sum_by_sub_blocks(w, q, qs));
+    let a = numbers::whole_to_f32(sum_of_products(w, p));
     scale * a - minimum * m
 }
 
@@ -59,7 +59,8 @@ fn dot_of_runs(w: &[u8], q: &[i8; 256], d: f32, qs: &[i8]) -> f32
 }
 
 // The dot of a packed block and an activation block, its scale, its 256 quants and its eight sums, for callers that
-// made the block and so know its sums. The formats with minimums share one call, as their decoder's.
+// made the block and so know its sums. Each format with minimums has its products made in its own branch, where the
+// compiler knows how many bits a quant has; what is done with them is one call.
 pub fn block_dot(format: FormatK, w: &[u8], d: f32, qs: &[i8], sums: &[i32]) -> f32
     requires { ⌜ (length (now w) ≡ bytesK format) × (length (now qs) ≡ 256) × (length (now sums) ≡ 8)
         × (hasMinimums format ≡ true → SmallSums (now sums)) ⌝ }
@@ -67,12 +68,12 @@ pub fn block_dot(format: FormatK, w: &[u8], d: f32, qs: &[i8], sums: &[i32]) -> 
 {
     match format {
         FormatK::Q4K | FormatK::Q5K => {
-            let q = if let FormatK::Q5K = format {
-                k_quants::quants_q5k(w)
+            let p = if let FormatK::Q5K = format {
+                products(&k_quants::quants_q5k(w), qs)
             } else {
-                k_quants::quants_q4k(w)
+                products(&k_quants::quants_q4k(w), qs)
             };
-            dot_of_sub_blocks(w, &q, d, qs, sums)
+            dot_of_products(w, &p, d, sums)
         }
         FormatK::Q6K => {
             let q = k_quants::quants_q6k(w);

@@ -1,4 +1,4 @@
--- The whole-number sum by lanes: how large a lane is, and that eight lanes are what all places weigh. Assumes nothing.
+-- The whole-number sum by lanes: how large a lane is, that eight lanes are what the pairs weigh, and these what all places weigh. Assumes nothing.
 use mathlib.Core.Path.{_≡_, refl, sym, ap, _∙_}
 use mathlib.Core.List.{List}
 use Prim.Native.Nat.{ℕ, _+_, _*_, _≤_, _<_}
@@ -14,7 +14,7 @@ use Rattle.dots_activation.specs.Inner.{pairOf, PairsWithin, sumOfPairs}
 use Rattle.dots_activation.proofs.Magnitudes.{within, pos-within, add-within, mul-within}
 use Rattle.dots_activation.proofs.Ranges.{sum-within, sum-same, sum-scale, sum-halves, sum-swap}
 use Rattle.dots_activation.proofs.Pairs.{pairs-sum}
-use Rattle.dots_whole.specs.Inner.{productAt, laneTerm, laneAt}
+use Rattle.dots_whole.specs.Inner.{productAt, pairsWeighed, laneTerm, laneAt}
 use Rattle.dots_whole.specs.Sums.{weighedAt}
 use Rattle.dots_whole.proofs.Runs.{byteOf, stretchWeighs, stretch-is, stretches-are}
 
@@ -34,11 +34,16 @@ module _ (w : List ℕ) (p : List ℤ) where
   of-sub-block j =
       sym (sum-scale (pos (scaleQ4K w j)) (λ l. elem p (16 * j + l) +ℤ elem p (16 * j + (8 + l))) 8) ∙ ap (λ (z : ℤ). pos (scaleQ4K w j) *ℤ z) (sum-halves (λ l. elem p (16 * j + l)) 8)
 
-  pub lanes-sum : (q : List ℕ) (x lanes : List ℤ) → p ≡ table (pairOf (productAt q x)) 128 → lanes ≡ table (laneAt w p) 8 → sumℤ (elem lanes) 8 ≡ sumℤ (weighedAt Q4K w (byteOf q) x) 256
-  lanes-sum q x lanes e f =
+  pub lanes-sum : (lanes : List ℤ) → lanes ≡ table (laneAt w p) 8 → sumℤ (elem lanes) 8 ≡ pairsWeighed w p
+  lanes-sum lanes f =
       sum-same (elem lanes) (laneAt w p) 8 (λ l h. ap (λ (m : List ℤ). elem m l) f ∙ getD-table (laneAt w p) 8 l (pos 0) h)
       ∙ sum-swap (laneTerm w p) 8 8
-      ∙ sum-same (λ j. sumℤ (λ l. laneTerm w p l j) 8) (stretchWeighs Q4K w (byteOf q) x 32) 8 (λ j h. of-sub-block j
-      ∙ ap (λ (z : ℤ). pos (scaleQ4K w j) *ℤ z) (pairs-sum (productAt q x) p j e h)
+      ∙ sum-same (λ j. sumℤ (λ l. laneTerm w p l j) 8) (λ j. pos (scaleQ4K w j) *ℤ sumOfPairs p j) 8 (λ j h. of-sub-block j)
+
+  -- ---- the pairs of a block's products are what all its places weigh
+
+  pub pairs-weigh : (q : List ℕ) (x : List ℤ) → p ≡ table (pairOf (productAt q x)) 128 → pairsWeighed w p ≡ sumℤ (weighedAt Q4K w (byteOf q) x) 256
+  pairs-weigh q x e =
+      sum-same (λ j. pos (scaleQ4K w j) *ℤ sumOfPairs p j) (stretchWeighs Q4K w (byteOf q) x 32) 8 (λ j h. ap (λ (z : ℤ). pos (scaleQ4K w j) *ℤ z) (pairs-sum (productAt q x) p j e h)
       ∙ stretch-is Q4K w (byteOf q) x 32 j (pos (scaleQ4K w j)) refl refl)
       ∙ stretches-are Q4K w (byteOf q) x 32 8

@@ -1,3 +1,4 @@
 -- What several proofs share, here and above.
 pub mod Runs
 pub mod Lanes
+pub mod Lent

@@ -2,5 +2,6 @@
 mod whole;
 
 pub use whole::minimum_sum;
+pub use whole::products;
 pub use whole::sum_by_runs;
-pub use whole::sum_by_sub_blocks;
+pub use whole::sum_of_products;

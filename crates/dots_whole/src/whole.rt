@@ -5,23 +5,22 @@
 // times a signed byte, stay below 2^31 too.
 use layouts::FormatK;
 ghost use mathlib.Core.Path.{_≡_};
-ghost use Prim.Native.Nat.{_+_, _*_, _≤_, _<_};
+ghost use Prim.Native.Nat.{ℕ, _+_, _*_, _≤_, _<_};
 ghost use lib.IntN.{ℤ, pos, _+ℤ_, _*ℤ_};
-ghost use lib.ListN.{length, getD};
+ghost use lib.ListN.{length};
 ghost use Rattle.memory.specs.Lists.{table};
 ghost use Rattle.dots_activation.specs.Whole.{elem, sumℤ, Within};
 ghost use Rattle.dots_activation.specs.Inner.{pairOf, PairsWithin};
 ghost use Rattle.dots_activation.specs.Blocks.{SmallSums};
-ghost use Rattle.dots_whole.specs.Inner.{FiveBits, productAt, laneAt, LanesWithin};
+ghost use Rattle.dots_whole.specs.Inner.{FiveBits, productAt, pairsWeighed, laneAt, LanesWithin};
 ghost use Rattle.dots_whole.specs.Sums.{weighedAt, minimumSum};
 
-// A quant of at most five bits times an activation quant and another times another, in 16 bits. Both are widened as
-// signed bytes: aarch64 multiplies such in one step, where it would widen an unsigned byte of unknown size first.
+// A quant of at most five bits times an activation quant and another times another, in 16 bits.
 fn two_products(a: u8, x: i8, b: u8, y: i8) -> i16
     requires { ⌜ (a < 32) × (b < 32) ⌝ }
     ensures { λ r. ⌜ (r ≡ pos a *ℤ x +ℤ pos b *ℤ y) × Within 7936 r ⌝ }
 {
-    a as i8 as i16 * x as i16 + b as i8 as i16 * y as i16
+    a as i16 * x as i16 + b as i16 * y as i16
 }
 
 // One quant times another.
@@ -40,30 +39,41 @@ fn weighed(a: i8, s: i32) -> i32
 }
 
 // The products at places i and 16 + i.
-fn products_at(q: &[u8; 256], x: &[i8], i: usize) -> i16
-    requires { ⌜ FiveBits (now q) × (length (now x) ≡ 256) × (i < 240) ⌝ }
+fn products_at(q: &[u8], x: &[i8], i: usize) -> i16
+    requires { ⌜ FiveBits (now q) × (length (now q) ≡ 64) × (length (now x) ≡ 64) × (i < 48) ⌝ }
     ensures { λ r. ⌜ (r ≡ productAt (now (q .entry)) (now (x .entry)) i
         +ℤ productAt (now (q .entry)) (now (x .entry)) (16 + i)) × Within 7936 r ⌝ }
 {
     two_products(q[i], x[i], q[16 + i], x[16 + i])
 }
 
-// The products in pairs, the two halves of each sub-block side by side. One pair of each sub-block a turn: eight
-// streams, which are vectors.
-fn products(q: &[u8; 256], x: &[i8]) -> [i16; 128]
-    requires { ⌜ FiveBits (now q) × (length (now x) ≡ 256) ⌝ }
-    ensures { λ r. ⌜ (r ≡ table (pairOf (productAt (now (q .entry)) (now (x .entry)))) 128) × PairsWithin 7936 r ⌝ }
+// The products of two sub-blocks in pairs, the two halves of each side by side. One pair of each a turn: two streams,
+// which are vectors.
+fn two_sub_blocks(q: &[u8], x: &[i8], p: &mut [i16])
+    requires { ⌜ FiveBits (now q) × (length (now q) ≡ 64) × (length (now x) ≡ 64) × (length (now p) ≡ 32) ⌝ }
+    ensures { λ _. ⌜ (now (p .exit) ≡ table (pairOf (productAt (now (q .entry)) (now (x .entry)))) 32)
+        × ((i : ℕ) → i < 32 → Within 7936 (pairOf (productAt (now (q .entry)) (now (x .entry))) i)) ⌝ }
 {
-    let mut p = [0i16; 128];
     for l in 0..16usize {
         p[l] = products_at(q, x, l);
         p[16 + l] = products_at(q, x, 32 + l);
-        p[32 + l] = products_at(q, x, 64 + l);
-        p[48 + l] = products_at(q, x, 96 + l);
-        p[64 + l] = products_at(q, x, 128 + l);
-        p[80 + l] = products_at(q, x, 160 + l);
-        p[96 + l] = products_at(q, x, 192 + l);
-        p[112 + l] = products_at(q, x, 224 + l);
+    }
+}
+
+// The products of a block in pairs, two sub-blocks a turn. It counts to a length that it is handed, and so is short
+// where it is compiled by itself: the compiler puts it into each format's branch, where it knows how many bits a quant
+// has.
+pub fn products(q: &[u8], x: &[i8]) -> [i16; 128]
+    requires { ⌜ FiveBits (now q) × (length (now q) ≡ 256) × (length (now x) ≡ 256) ⌝ }
+    ensures { λ r. ⌜ (r ≡ table (pairOf (productAt (now (q .entry)) (now (x .entry)))) 128) × PairsWithin 7936 r ⌝ }
+{
+    let mut p = [0i16; 128];
+    for g in 0..q.len() / 64 {
+        let at = 64 * g;
+        let end = at + 64;
+        let from = 32 * g;
+        let to = from + 32;
+        two_sub_blocks(&q[at..end], &x[at..end], &mut p[from..to]);
     }
     p
 }
@@ -120,14 +130,12 @@ fn run(q: &[i8; 256], x: &[i8], e: usize) -> i32
     s
 }
 
-// The whole-number sum over all places of a block with minimums, whose quants are q: a scale for each sub-block.
-pub fn sum_by_sub_blocks(w: &[u8], q: &[u8; 256], x: &[i8]) -> i32
-    requires { ⌜ (16 ≤ length (now w)) × FiveBits (now q) × (length (now x) ≡ 256) ⌝ }
-    ensures { λ r. ⌜ r ≡ sumℤ
-        (weighedAt FormatK.Q4K (now (w .entry)) (λ i. pos (getD (now (q .entry)) i 0)) (now (x .entry))) 256 ⌝ }
+// The whole-number sum over all places of a block with minimums, of its products in pairs: a scale for each sub-block.
+pub fn sum_of_products(w: &[u8], p: &[i16; 128]) -> i32
+    requires { ⌜ (16 ≤ length (now w)) × PairsWithin 7936 (now p) ⌝ }
+    ensures { λ r. ⌜ r ≡ pairsWeighed (now (w .entry)) (now (p .entry)) ⌝ }
 {
-    let p = products(q, x);
-    let lanes = lanes_of(w, &p);
+    let lanes = lanes_of(w, p);
     sum_of_lanes(&lanes)
 }
 
