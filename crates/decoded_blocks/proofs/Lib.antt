@@ -1,3 +1,4 @@
--- Runs of values, and the order of a value's products.
+-- Whole numbers times a scale, runs of values, and the order of a value's products.
+pub mod Scaled
 pub mod Runs
 pub mod Orders

@@ -1,34 +1,22 @@
 -- `of32::decode_q8_0` meets its contract: the places are filled in turn. Assumes nothing.
-use mathlib.Core.Path.{_≡_, sym, ap, _∙_}
-use Prim.Native.Nat.{ℕ, _-_}
-use mathlib.Core.List.{List}
-use lib.IntN.{ℤ, pos}
-use lib.ListN.{getD}
-use lib.Ieee.{Float, binary32, mul, ofInt}
+use mathlib.Core.Path.{ap, _∙_}
+use Prim.Native.Nat.{_-_}
 use mir.Syntax.{w8}
 use Rattle.halves.specs.Binary16.{widened}
-use Rattle.numbers.specs.Fields.{le16}
 use Rattle.numbers.proofs.Signed.{read-is}
-use Rattle.memory.proofs.Filled.{Filling, filling-start, filling-more, filling-done, getD-table, table-ext}
+use Rattle.memory.proofs.Filled.{Filling, filling-start, filling-more, filling-done}
 use native.Mathlib.Omega.{arith}
 use borrow.Author.Needs.{needs}
-use Rattle.layouts.specs.Of32.{quant32, value32}
 use Rattle.layouts.specs.declared.format.Format32.the-variants.{Q80}
+use Rattle.decoded_blocks.proofs.Scaled.{times, at, of-quants, of-scale}
 use Rattle.decoded_blocks.proofs.of32.decode_q8_0.Statement.{statement}
 use Rattle.decoded_blocks.proofs.of32.decode_q8_0.Tie as tie
-
--- the value at place i by the scale and the whole numbers
-abbrev at : Float → List ℤ → ℕ → Float
-at s q i = mul binary32 s (ofInt binary32 (getD q i (pos 0)))
 
 abbrev Inv-loop : tie.InvT-loop
 Inv-loop block out₀ s q k₀ out k = Filling (at s q) out₀ 32 out k
 
 abbrev μ-loop : tie.MeasureT-loop
 μ-loop block out₀ s q k₀ out k = 32 - k
-
-quants-32-requires : tie.Need-quants-32-requires Inv-loop μ-loop
-quants-32-requires c κs = c .before .before .before .before .before .before .pre .0
 
 loop-holds : tie.Need-loop-holds Inv-loop μ-loop
 loop-holds c =
@@ -41,10 +29,7 @@ loop-again c =
     let t = d .before .before .before .before .before .before .before .before in
     let q = d .before .quants-32 .result in
     let s = d .before .before .f16-to-f32 .result in
-    filling-more (at s q) (t .args .out .now) 32 (d .loop .out) (d .loop .k) _ (t .pre .1) (d .loop .inv) (c .before .before .loop-test .taken) (ap (λ (z : ℤ). mul binary32 s (ofInt binary32 z)) (read-is w8 _ (c .before .out .given)))
-
-same-length : tie.Need-same-length Inv-loop μ-loop
-same-length c = c .before .loop .inv .2 ∙ sym (c .before .before .before .before .before .before .before .before .before .pre .1)
+    filling-more (at s q) (t .args .out .now) 32 (d .loop .out) (d .loop .k) _ (t .pre .1) (d .loop .inv) (c .before .before .loop-test .taken) (ap (times s) (read-is w8 _ (c .before .out .given)))
 
 returns : tie.Need-returns Inv-loop μ-loop
 returns c =
@@ -53,9 +38,9 @@ returns c =
     let q = d .before .quants-32 in
     let s = d .before .before .f16-to-f32 in
     let bs = t .args .block .now in
-    let scale : s .result ≡ widened (le16 bs 0) = s .ensures ∙ ap widened (d .before .before .before .le-u16 .ensures) in
     filling-done (at (s .result) (q .result)) (t .args .out .now) 32 (d .loop .out) (d .loop .k) (t .pre .1) (d .loop .inv) (c .loop-test .left)
-    ∙ table-ext (at (s .result) (q .result)) (value32 Q80 bs) 32 (λ i h. rw (scale, q .ensures, getD-table (quant32 Q80 bs) 32 i (pos 0) h))
+    ∙ of-quants Q80 bs (s .result) (q .result) (q .ensures)
+    ∙ of-scale Q80 bs (s .result) (s .ensures ∙ ap widened (d .before .before .before .le-u16 .ensures))
 
 pub decode-q8-0-spec : {M : Type 1} → statement M
 decode-q8-0-spec =
@@ -67,7 +52,7 @@ decode-q8-0-spec =
     (λ c. omega arith)
     (λ c κs. search needs)
     (λ c κs. search needs)
-    quants-32-requires
+    (λ c κs. search needs)
     loop-holds
     (λ c. omega arith)
     (λ c. search needs)
@@ -76,5 +61,5 @@ decode-q8-0-spec =
     (λ c. omega arith)
     (λ c. omega arith)
     loop-again
-    same-length
+    (λ c. omega arith)
     returns)
