@@ -27,17 +27,18 @@ pub fn readings(bytes: &[u8], x: &mut [f32])
     }
 }
 
-// Whether one of the first n readings has all bits zero.
+// Whether one of the first n readings has all bits zero. All are looked at, a vector at a time.
 fn has_zero(bytes: &[u8], n: usize) -> bool
     requires { ⌜ n * 4 ≤ length (now bytes) ⌝ }
     ensures { λ r. ⌜ r ≡ hasZero (now (bytes .entry)) n ⌝ }
 {
+    let mut found = false;
     for k in 0..n {
         if bits_at(bytes, k * 4) == 0 {
-            return true;
+            found = true;
         }
     }
-    false
+    found
 }
 
 // The window record whose payload is p, after a latest layer of so many readings, 0 where there is none yet.
