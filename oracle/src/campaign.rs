@@ -1,5 +1,5 @@
-//! The campaign: every call beside the Rust, on other inputs in each round, for as long as the
-//! caller gives.
+//! The campaign: calls beside the Rust, on other inputs in each round, for as long as the caller
+//! gives.
 use crate::calls::{Call, CALLS};
 use crate::compare::{Comparison, Differing, Plan};
 use crate::tally::{self, Tally};
@@ -20,16 +20,16 @@ struct Total {
     tally: Tally,
 }
 
-/// Compares every call, round after round, and prints what came of each; whether nothing differs.
+/// Compares these calls, round after round, and prints what came of each; whether nothing differs.
 /// The first round is always whole.
-pub fn run(minutes: u64, seed: u64) -> io::Result<bool> {
+pub fn run(calls: &[&'static Call], minutes: u64, seed: u64) -> io::Result<bool> {
     let began = Instant::now();
     let time = Duration::from_secs(minutes * 60);
-    let mut totals = vec![Total::default(); CALLS.len()];
+    let mut totals = vec![Total::default(); calls.len()];
     let mut differences = Differences::of(seed);
     let mut rounds = 0;
     while rounds == 0 || began.elapsed() < time {
-        for (call, total) in CALLS.iter().zip(&mut totals) {
+        for (call, total) in calls.iter().zip(&mut totals) {
             if rounds > 0 && began.elapsed() >= time {
                 break;
             }
@@ -40,7 +40,7 @@ pub fn run(minutes: u64, seed: u64) -> io::Result<bool> {
     }
     clear();
     println!("seed {seed}, {minutes} minutes, {rounds} rounds begun");
-    Ok(print_totals(&totals, &differences))
+    Ok(print_totals(calls, &totals, &differences))
 }
 
 fn one_round(
@@ -74,9 +74,9 @@ fn salted(seed: u64, round: u64) -> u64 {
     salt
 }
 
-fn print_totals(totals: &[Total], differences: &Differences) -> bool {
+fn print_totals(calls: &[&'static Call], totals: &[Total], differences: &Differences) -> bool {
     let mut all = Total::default();
-    for (call, total) in CALLS.iter().zip(totals) {
+    for (call, total) in calls.iter().zip(totals) {
         let Total {
             cases,
             values,

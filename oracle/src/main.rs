@@ -56,10 +56,10 @@ oracle compare [CALL..]   compares ours with the Rust, and with a reference wher
                           call, on the calls named or on all; `canonical_dot_pub`, the dots and the
                           layers with themselves too, by document 02's laws; `stepped` names the
                           calls of the stepped layer; status 1 where an answer differs
-oracle campaign [--minutes M] [--seed S]
-                          compares every call on other inputs in each round, for so many minutes
-                          (60, seed 1): counts to a call and to a refusal number; keeps the cases
-                          that differ in a file; status 1 where there is one
+oracle campaign [CALL..] [--minutes M] [--seed S]
+                          compares the calls named, or all, on other inputs in each round, for so
+                          many minutes (60, seed 1): counts to a call and to a refusal number; keeps
+                          the cases that differ in a file; status 1 where there is one
 oracle again FILE         compares the cases of such a file again
 oracle sample             writes the stored sample that the program `replay` replays
 oracle fillin PROGRAM [--files N] [--seed S]
@@ -79,7 +79,7 @@ fn main() -> ExitCode {
     match words[..] {
         ["compare", ref names @ ..] => match chosen(names) {
             Ok(calls) => compare_all(&calls),
-            Err(name) => misused(&format!("no call has the name {name}")),
+            Err(why) => misused(&why),
         },
         ["campaign", ref options @ ..] => campaign(options),
         ["again", file] => ended("the cases", campaign::again(file)),
@@ -92,14 +92,17 @@ fn main() -> ExitCode {
     }
 }
 
-fn campaign(options: &[&str]) -> ExitCode {
-    let mut options = match Options::of(options) {
-        Ok(options) => options,
-        Err(why) => return misused(&why),
+/// Names of calls, and the options behind them.
+fn campaign(words: &[&str]) -> ExitCode {
+    let names = words.iter().take_while(|word| !word.starts_with("--"));
+    let (names, options) = words.split_at(names.count());
+    let (calls, mut options) = match (chosen(names), Options::of(options)) {
+        (Ok(calls), Ok(options)) => (calls, options),
+        (Err(why), _) | (_, Err(why)) => return misused(&why),
     };
     let (minutes, seed) = (options.take("--minutes", 60), options.take("--seed", 1));
     match options.rest() {
-        Ok(()) => ended("the campaign", campaign::run(minutes, seed)),
+        Ok(()) => ended("the campaign", campaign::run(&calls, minutes, seed)),
         Err(why) => misused(&why),
     }
 }
@@ -153,13 +156,14 @@ fn misused(why: &str) -> ExitCode {
 }
 
 /// The calls of the names given, all where none is; or the name that no call has.
-fn chosen<'a>(names: &[&'a str]) -> Result<Vec<&'static Call>, &'a str> {
+fn chosen(names: &[&str]) -> Result<Vec<&'static Call>, String> {
     if names.is_empty() {
         return Ok(CALLS.iter().collect());
     }
+    let named = |name| CALLS.iter().find(|call| call.name == name);
     names
         .iter()
-        .map(|&name| CALLS.iter().find(|call| call.name == name).ok_or(name))
+        .map(|&name| named(name).ok_or_else(|| format!("no call has the name {name}")))
         .collect()
 }
 
