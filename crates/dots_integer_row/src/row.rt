@@ -27,7 +27,8 @@ fn block_end(n: usize, b: usize) -> usize
 }
 
 // The dot of the first n places: the dots of the blocks meet in the tree. Past the readings of the last block its
-// quants are 0, and add nothing.
+// quants are 0, and add nothing. Quants are taken out of their block as its sums are: where a part of it is lent, the
+// whole block is copied first.
 fn integer_row(format: FormatK, x: &[f32], w: &[u8], n: usize) -> f32
     requires { ⌜ (n ≤ mostIn) × (n ≤ length (now x)) × (stretchesIn 256 n * bytesK format ≤ length (now w)) ⌝ }
     ensures { λ r. ⌜ r ≡ integerRow format (now (x .entry)) (now (w .entry)) n ⌝ }
@@ -42,8 +43,9 @@ fn integer_row(format: FormatK, x: &[f32], w: &[u8], n: usize) -> f32
         let from = b * size;
         let to = from + size;
         let block = quantized_block(&x[s..e]);
+        let qs = block.qs;
         let sums = block.bsums;
-        dots[b] = block_dot(format, &w[from..to], block.d, &block.qs, &sums);
+        dots[b] = block_dot(format, &w[from..to], block.d, &qs, &sums);
         b += 1;
     }
     sums_tree::canonical_combine(&mut dots[..blocks])

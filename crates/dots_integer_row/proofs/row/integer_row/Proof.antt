@@ -52,13 +52,13 @@ quantized-block-requires c κs =
     omega (arith, part-length (t .before .before .before .before .before .args .x .now) s (b .block-end .result - s) (b .block-end .result) (omega arith) (omega arith))
 
 sub-block-dot : tie.Need-sub-block-dot Inv-loop μ-loop
-sub-block-dot c = omega (arith, inside (c .before .before .before))
+sub-block-dot c = omega (arith, inside (c .before .before .before .before))
 
 part-block-dot-start : tie.Need-part-block-dot-start Inv-loop μ-loop
-part-block-dot-start c = omega (arith, inside (c .before .before .before))
+part-block-dot-start c = omega (arith, inside (c .before .before .before .before))
 
 part-block-dot-end : tie.Need-part-block-dot-end Inv-loop μ-loop
-part-block-dot-end c = omega (arith, inside (c .before .before .before))
+part-block-dot-end c = omega (arith, inside (c .before .before .before .before))
 
 -- the block is long enough
 long : (c : tie.After-quantized-block Inv-loop μ-loop) → (length (c .quantized-block .result .qs) ≡ 256) × (length (c .quantized-block .result .bsums) ≡ 8)
@@ -67,11 +67,14 @@ long c =
     (ap (λ (b : Q8Block). length (b .qs)) e ∙ block-long _ .0, ap (λ (b : Q8Block). length (b .bsums)) e ∙ block-long _ .1)
 
 slice-aggregate-block-dot : tie.Need-slice-aggregate-block-dot Inv-loop μ-loop
-slice-aggregate-block-dot c = sym (long (c .before .before .before .before .before .before) .1)
+slice-aggregate-block-dot c = sym (long (c .before .before .before .before) .0)
+
+slice-aggregate-block-dot-2 : tie.Need-slice-aggregate-block-dot-2 Inv-loop μ-loop
+slice-aggregate-block-dot-2 c = sym (long (c .before .before .before .before .before) .1)
 
 block-dot-requires : tie.Need-block-dot-requires Inv-loop μ-loop
 block-dot-requires c κs =
-    let q = c .before .before .before .before .before .before in
+    let q = c .before .before .before .before .before in
     let e = q .before .before in
     let t = e .before .before in
     let size = t .before .before .block-bytes in
@@ -81,7 +84,7 @@ block-dot-requires c κs =
 
 loop-again : tie.Need-loop-again Inv-loop μ-loop
 loop-again c =
-    let made = c .before .before .before .before .before .before .before in
+    let made = c .before .before .before .before .before .before in
     let q = made .quantized-block in
     let e = made .before .before .block-end in
     let t = made .before .before .before .before in
@@ -124,6 +127,7 @@ integer-row-spec =
     part-block-dot-start
     part-block-dot-end
     slice-aggregate-block-dot
+    slice-aggregate-block-dot-2
     block-dot-requires
     (λ c. omega arith)
     (λ c. omega arith)
