@@ -19,13 +19,12 @@ pub fn scale_run(q: &[i8], s: f32, out: &mut [f32])
     }
 }
 
-// A block's 32 values by its whole numbers, a run of 16 a turn.
-fn decode_quants(format: Format32, block: &[u8], s: f32, out: &mut [f32])
-    requires { ⌜ (length (now block) ≡ bytes32 format) × (length (now out) ≡ 32) ⌝ }
+// 32 whole numbers, each times the scale s, a run of 16 a turn.
+fn scale_quants(q: &[i8], s: f32, out: &mut [f32])
+    requires { ⌜ (length (now q) ≡ 32) × (length (now out) ≡ 32) ⌝ }
     ensures { λ _. ⌜ now (out .exit)
-        ≡ table (λ j. mul binary32 s (ofInt binary32 (quant32 format (now (block .entry)) j))) 32 ⌝ }
+        ≡ table (λ j. mul binary32 s (ofInt binary32 (getD (now (q .entry)) j (pos 0)))) 32 ⌝ }
 {
-    let q = layouts::quants_32(format, block);
     for e in 0..2usize {
         let at = 16 * e;
         let end = at + 16;
@@ -66,11 +65,14 @@ pub fn decode_32(format: Format32, block: &[u8], out: &mut [f32])
     ensures { λ _. ⌜ now (out .exit) ≡ table (value32 format (now (block .entry))) 32 ⌝ }
 {
     let s = halves::f16_to_f32(numbers::le_u16(block[0], block[1]));
-    if let Format32::Iq4Nl = format {
-        decode_picked(block, s, out);
-    } else {
-        decode_quants(format, block, s, out);
-    }
+    let q = match format {
+        Format32::Q40 => layouts::quants_q4_0(block),
+        Format32::Q40Ggml => layouts::quants_q4_0_ggml(block),
+        Format32::Q50 => layouts::quants_q5_0(block),
+        Format32::Q80 => layouts::quants_q8_0(block),
+        Format32::Iq4Nl => return decode_picked(block, s, out),
+    };
+    scale_quants(&q, s, out);
 }
 
 // One Q8_0 block's 32 values, for a loop over such blocks alone. The whole numbers go through an array, so that all are
@@ -80,7 +82,7 @@ pub fn decode_q8_0(block: &[u8], out: &mut [f32])
     ensures { λ _. ⌜ now (out .exit) ≡ table (value32 Format32.Q80 (now (block .entry))) 32 ⌝ }
 {
     let s = halves::f16_to_f32(numbers::le_u16(block[0], block[1]));
-    let q = layouts::quants_32(Format32::Q80, block);
+    let q = layouts::quants_q8_0(block);
     for k in 0..32usize {
         out[k] = s * q[k] as f32;
     }

@@ -5,7 +5,6 @@ ghost use Prim.Native.Nat.{_+_, _*_, _%_, _≤_, _<_};
 ghost use lib.IntN.{pos, _-ℤ_};
 ghost use lib.ListN.{length};
 ghost use Rattle.memory.specs.Lists.{table};
-ghost use Rattle.layouts.specs.Formats.{bytes32};
 ghost use Rattle.layouts.specs.Of32.{valuesIq4Nl, quant32};
 
 // n less k.
@@ -18,7 +17,7 @@ pub fn less(n: u8, k: u8) -> i8
 
 // Q4_0's whole numbers: byte k's low and high nibbles are neighbours. The loop counts to the block's length and not to
 // a number, since the compiler would write out sixteen turns and make no vectors of them.
-fn quants_q4_0(block: &[u8]) -> [i8; 32]
+pub fn quants_q4_0(block: &[u8]) -> [i8; 32]
     requires { ⌜ length (now block) ≡ 18 ⌝ }
     ensures { λ r. ⌜ r ≡ table (quant32 Format32.Q40 (now (block .entry))) 32 ⌝ }
 {
@@ -32,7 +31,7 @@ fn quants_q4_0(block: &[u8]) -> [i8; 32]
 }
 
 // The same in GGML's order: byte k's nibbles are at places k and k + 16.
-fn quants_q4_0_ggml(block: &[u8]) -> [i8; 32]
+pub fn quants_q4_0_ggml(block: &[u8]) -> [i8; 32]
     requires { ⌜ length (now block) ≡ 18 ⌝ }
     ensures { λ r. ⌜ r ≡ table (quant32 Format32.Q40Ggml (now (block .entry))) 32 ⌝ }
 {
@@ -54,7 +53,7 @@ fn with_high_bit(nibble: u8, h: u32) -> i8
 }
 
 // Q5_0's whole numbers: byte k's nibbles are at places k and k + 16, each with its high bit.
-fn quants_q5_0(block: &[u8]) -> [i8; 32]
+pub fn quants_q5_0(block: &[u8]) -> [i8; 32]
     requires { ⌜ length (now block) ≡ 22 ⌝ }
     ensures { λ r. ⌜ r ≡ table (quant32 Format32.Q50 (now (block .entry))) 32 ⌝ }
 {
@@ -69,7 +68,7 @@ fn quants_q5_0(block: &[u8]) -> [i8; 32]
 }
 
 // Q8_0's whole numbers: signed bytes.
-fn quants_q8_0(block: &[u8]) -> [i8; 32]
+pub fn quants_q8_0(block: &[u8]) -> [i8; 32]
     requires { ⌜ length (now block) ≡ 34 ⌝ }
     ensures { λ r. ⌜ r ≡ table (quant32 Format32.Q80 (now (block .entry))) 32 ⌝ }
 {
@@ -105,33 +104,4 @@ pub fn values_iq4_nl() -> [i8; 16]
     ensures { λ r. ⌜ r ≡ valuesIq4Nl ⌝ }
 {
     VALUES_IQ4_NL
-}
-
-// IQ4_NL's whole numbers: byte k's nibbles pick those at places k and k + 16.
-fn quants_iq4_nl(block: &[u8]) -> [i8; 32]
-    requires { ⌜ length (now block) ≡ 18 ⌝ }
-    ensures { λ r. ⌜ r ≡ table (quant32 Format32.Iq4Nl (now (block .entry))) 32 ⌝ }
-{
-    let values = values_iq4_nl();
-    let mut q = [0i8; 32];
-    for k in 0..16usize {
-        let b = block[2 + k];
-        q[k] = values[(b % 16) as usize];
-        q[k + 16] = values[(b / 16) as usize];
-    }
-    q
-}
-
-// A block's 32 whole numbers.
-pub fn quants_32(format: Format32, block: &[u8]) -> [i8; 32]
-    requires { ⌜ length (now block) ≡ bytes32 format ⌝ }
-    ensures { λ r. ⌜ r ≡ table (quant32 format (now (block .entry))) 32 ⌝ }
-{
-    match format {
-        Format32::Q40 => quants_q4_0(block),
-        Format32::Q40Ggml => quants_q4_0_ggml(block),
-        Format32::Q50 => quants_q5_0(block),
-        Format32::Q80 => quants_q8_0(block),
-        Format32::Iq4Nl => quants_iq4_nl(block),
-    }
 }

@@ -21,13 +21,13 @@ abbrev μ-loop : tie.MeasureT-loop
 loop-holds : tie.Need-loop-holds Inv-loop μ-loop
 loop-holds c =
     let t = c .before .before .before .before .before .before .before in
-    filling-start (at (c .before .f16-to-f32 .result) (c .quants-32 .result)) (t .args .out .now) 32 (t .pre .1)
+    filling-start (at (c .before .f16-to-f32 .result) (c .quants-q8-0 .result)) (t .args .out .now) 32 (t .pre .1)
 
 loop-again : tie.Need-loop-again Inv-loop μ-loop
 loop-again c =
     let d = c .before .before .before in
     let t = d .before .before .before .before .before .before .before .before in
-    let q = d .before .quants-32 .result in
+    let q = d .before .quants-q8-0 .result in
     let s = d .before .before .f16-to-f32 .result in
     filling-more (at s q) (t .args .out .now) 32 (d .loop .out) (d .loop .k) _ (t .pre .1) (d .loop .inv) (c .before .before .loop-test .taken) (ap (times s) (read-is w8 _ (c .before .out .given)))
 
@@ -35,7 +35,7 @@ returns : tie.Need-returns Inv-loop μ-loop
 returns c =
     let d = c .before in
     let t = d .before .before .before .before .before .before .before .before in
-    let q = d .before .quants-32 in
+    let q = d .before .quants-q8-0 in
     let s = d .before .before .f16-to-f32 in
     let bs = t .args .block .now in
     filling-done (at (s .result) (q .result)) (t .args .out .now) 32 (d .loop .out) (d .loop .k) (t .pre .1) (d .loop .inv) (c .loop-test .left)
