@@ -37,10 +37,11 @@ ofBlock f orders b r = orders (256 / run f * b + r)
 abbrev pub fifthBit : List ℕ → ℕ → ℕ
 fifthBit bs i = getD bs (16 + i % 32) 0 / 2 ^ (i / 32) % 2
 
--- Q6_K: the nibble at place i, and the two bits above it
+-- Q6_K: the nibble at place i
 abbrev pub lowBits : List ℕ → ℕ → ℕ
 lowBits bs i = nibble (getD bs (64 * (i / 128) + (32 * (i % 128 / 32 % 2) + i % 32)) 0) (i % 128 / 32 / 2)
 
+-- Q6_K: the two bits above the nibble at place i
 abbrev pub bitPair : List ℕ → ℕ → ℕ
 bitPair bs i = getD bs (128 + (32 * (i / 128) + i % 32)) 0 / 2 ^ (2 * (i % 128 / 32)) % 4
 

@@ -24,26 +24,29 @@ weightsOf first then = 0x00 ∷ 0x3c ∷ 0x00 ∷ 0x00 ∷ 1 ∷ replicate 11 0 
 unfoldable pub readingsOf : List Float → List Float → List Float
 readingsOf first then = first ++ then ++ replicate 240 nought
 
--- 2^23, and 1.0
+-- 2^23
 abbrev pub large : Float
 large = ofBits binary32 0x4b00_0000
 
+-- 1.0
 abbrev pub one : Float
 one = ofBits binary32 0x3f80_0000
 
--- quants 2, 1, 1 and readings 2^23, 1.0, 1.0 at places 0, 4 and 12
+-- quants 2, 1, 1 at places 0, 4 and 12
 abbrev pub weightsBefore : List ℕ
 weightsBefore = weightsOf (2 ∷ 0 ∷ 0 ∷ 0 ∷ 1 ∷ 0 ∷ 0 ∷ 0 ∷ []) (0 ∷ 0 ∷ 0 ∷ 0 ∷ 1 ∷ 0 ∷ 0 ∷ 0 ∷ [])
 
+-- readings 2^23, 1.0, 1.0 at the same places
 abbrev pub readingsBefore : List Float
 readingsBefore =
     readingsOf (large ∷ nought ∷ nought ∷ nought ∷ one ∷ nought ∷ nought ∷ nought ∷ [])
     (nought ∷ nought ∷ nought ∷ nought ∷ one ∷ nought ∷ nought ∷ nought ∷ [])
 
--- the same at places 0, 2 and 6
+-- the same quants at places 0, 2 and 6
 abbrev pub weightsAfter : List ℕ
 weightsAfter = weightsOf (2 ∷ 0 ∷ 1 ∷ 0 ∷ 0 ∷ 0 ∷ 1 ∷ 0 ∷ []) (replicate 8 0)
 
+-- and the same readings
 abbrev pub readingsAfter : List Float
 readingsAfter =
     readingsOf (large ∷ nought ∷ one ∷ nought ∷ nought ∷ nought ∷ one ∷ nought ∷ []) (replicate 8 nought)
