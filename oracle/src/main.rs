@@ -86,7 +86,7 @@ fn main() -> ExitCode {
         ["sample"] => ended("the sample", sample::write().map(|()| true)),
         ["fillin", program, ref options @ ..] => fillin(program, options),
         ["records"] => ended("the records", gate_records::write().map(|()| true)),
-        ["month", file, ref options @ ..] => month(file, options),
+        ["month", file, ref options @ ..] if !file.starts_with('-') => month(file, options),
         ["dots", file] => ended("the dots", month::time_dots(file).map(|()| true)),
         _ => misused(USAGE),
     }
