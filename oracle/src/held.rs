@@ -45,7 +45,8 @@ pub fn outcome(
     if ours.err() == refusal {
         return Ok(());
     }
-    let shown = |refusal: Option<Refusal>| refusal.map_or("done".into(), refused);
+    let shown =
+        |refusal: Option<Refusal>| refusal.map_or("done".into(), |refusal| refusal.to_string());
     Err(Difference {
         input: input(),
         wanted: shown(refusal),
@@ -53,17 +54,12 @@ pub fn outcome(
     })
 }
 
-/// A value's bits, or a refusal.
+/// A value's bits, or a refusal: its number and what it says, of short weights the two counts.
 pub fn shown(answer: Result<f32, Refusal>) -> String {
     match answer {
         Ok(value) => format!("{:08X}", value.to_bits()),
-        Err(refusal) => refused(refusal),
+        Err(refusal) => refusal.to_string(),
     }
-}
-
-/// A refusal's number, and what it says: of short weights that is the two counts.
-pub fn refused(refusal: Refusal) -> String {
-    format!("refusal {}, {refusal}", refusal.number())
 }
 
 /// What stands in one place of lent memory.
@@ -231,8 +227,8 @@ mod tests {
         let Err(shown) = outcome(Some(COUNTED), Err(OTHERS[1]), || "a row".into()) else {
             panic!("8 of 16 is not 8 of 17");
         };
-        let wanted = "refusal 3, 8 whole blocks of weights, 16 needed";
-        let ours = "refusal 3, 8 whole blocks of weights, 17 needed";
+        let wanted = "refused 3: 8 whole blocks of weights, 16 needed";
+        let ours = "refused 3: 8 whole blocks of weights, 17 needed";
         assert_eq!(
             shown.to_string(),
             format!("a row: wanted {wanted}, ours {ours}")

@@ -543,7 +543,7 @@ fn answer(answer: Result<Option<Progress>, Refusal>) -> String {
     match answer {
         Ok(None) => "done".into(),
         Ok(Some(Progress { done, left })) => format!("{done} done, {left} left"),
-        Err(refusal) => held::refused(refusal),
+        Err(refusal) => refusal.to_string(),
     }
 }
 
@@ -576,8 +576,8 @@ mod tests {
         let Err(shown) = agree(short(128), short(127), answer, || "run".into()) else {
             panic!("128 is not 127");
         };
-        let wanted = "refusal 3, 128 whole blocks of weights, 256 needed";
-        let ours = "refusal 3, 127 whole blocks of weights, 256 needed";
+        let wanted = "refused 3: 128 whole blocks of weights, 256 needed";
+        let ours = "refused 3: 127 whole blocks of weights, 256 needed";
         assert_eq!(
             shown.to_string(),
             format!("run: wanted {wanted}, ours {ours}")
