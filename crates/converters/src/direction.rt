@@ -1,7 +1,7 @@
 // Which way a converter goes.
 
 // From the order that pairs neighbours to GGML's, or back.
-#[derive(Drop)]
+#[derive(Clone, Copy)]
 pub enum Direction {
     ToGgml,
     FromGgml,

@@ -4,7 +4,7 @@ ghost use Rattle.sums_lanes.specs.Lanes.{values};
 ghost use Rattle.dots_kept_row.specs.Meets.{running, meets};
 
 // In the tree, or, in the `_rs` layers, in a running sum from +0.0.
-#[derive(Drop)]
+#[derive(Clone, Copy)]
 pub enum Meeting {
     Tree,
     Running,

@@ -8,7 +8,7 @@ use layouts::{Format, FormatK};
 use refusals::{Check, Refusal};
 
 // `batch` rows of in_feat readings, out_feat rows of in_feat weights, and an output for each pair of them.
-#[derive(Drop)]
+#[derive(Clone, Copy)]
 pub struct Shape {
     pub batch: usize,
     pub in_feat: usize,

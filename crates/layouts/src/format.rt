@@ -4,7 +4,7 @@ ghost use Rattle.std.specs.Prelude.{◌≡◌};
 ghost use Rattle.layouts.specs.Formats.{bytes32, bytesK, blockBytes, blockValues, formatNamed};
 
 // The formats with 32 values to a block. Q4_0 is in two orders: with neighbours paired in a byte, and in GGML's.
-#[derive(Drop)]
+#[derive(Clone, Copy)]
 pub enum Format32 {
     Q40,
     Q40Ggml,
@@ -14,14 +14,14 @@ pub enum Format32 {
 }
 
 // The K formats: 256 values to a block, in 16 runs of 16.
-#[derive(Drop)]
+#[derive(Clone, Copy)]
 pub enum FormatK {
     Q4K,
     Q5K,
     Q6K,
 }
 
-#[derive(Drop)]
+#[derive(Clone, Copy)]
 pub enum Format {
     Of32(Format32),
     OfK(FormatK),

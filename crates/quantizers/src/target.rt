@@ -6,7 +6,7 @@ use layouts::Format32;
 
 // The formats that have a quantizer: of those with 32 values to a block Q5_0 has none. That of IQ4_NL is given its scale,
 // a binary16, and the others pick one for each block.
-#[derive(Drop)]
+#[derive(Clone, Copy)]
 pub enum Target {
     Q40,
     Q40Ggml,

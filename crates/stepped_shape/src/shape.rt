@@ -6,7 +6,7 @@ ghost use Rattle.stepped_shape.specs.Refusals.{shapeRefusal};
 ghost use Rattle.stepped_shape.specs.Inner.{InLayer};
 
 // A format byte (4 is Q4_K, 5 is Q5_K, 6 is Q6_K), and how many readings go in and outputs come out.
-#[derive(Drop)]
+#[derive(Clone, Copy)]
 pub struct Layer {
     pub format: u8,
     pub in_feat: usize,
