@@ -8,5 +8,5 @@ unfoldable pub ones : List Float
 ones = replicate 8193 (of_bits binary32 0x3F800000)
 
 -- a Q4_K block whose values are ones: d = 1, dmin = 0, and every scale, minimum and nibble is 1
-unfoldable pub blockOfOnes : List ℕ
-blockOfOnes = 0x00 ∷ 0x3C ∷ 0x00 ∷ 0x00 ∷ 1 ∷ 1 ∷ 1 ∷ 1 ∷ replicate 136 0x11
+unfoldable pub block_of_ones : List ℕ
+block_of_ones = 0x00 ∷ 0x3C ∷ 0x00 ∷ 0x00 ∷ 1 ∷ 1 ∷ 1 ∷ 1 ∷ replicate 136 0x11

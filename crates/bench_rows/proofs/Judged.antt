@@ -9,29 +9,29 @@ use lib.ListN.{length, get_or, replicate, get_or-map}
 use lib.Ieee.{Float, binary32, to_bits}
 use borrow.Author.Tests.{eq-eqb, le-ltb}
 use Rattle.refusals.specs.Said.{Said, value}
-use Rattle.refusals.specs.Refusals.{given, or_else, carriedOut}
+use Rattle.refusals.specs.Refusals.{given, or_else, carried_out}
 use Rattle.refusals.specs.declared.Refusal.{Refusal}
 use Rattle.refusals.proofs.Laws.{apart}
 use Rattle.memory.specs.Lists.{table, filled, every}
-use Rattle.memory.proofs.Filled.{length-filled}
+use Rattle.memory.proofs.Filled.{length_filled}
 use Rattle.numbers.specs.Fields.{byte_of}
 use Rattle.readings.specs.Readings.{inverse}
-use Rattle.quantizers.specs.Says.{packed_at, quantizeRefusal, quantizeSays}
-use Rattle.quantizers.specs.Lost.{lostBy, packingSays}
+use Rattle.quantizers.specs.Says.{packed_at, quantize_refusal, quantize_says}
+use Rattle.quantizers.specs.Lost.{lost_by, packing_says}
 use Rattle.quantizers.specs.declared.lost.Lost.{Lost}
 use Rattle.quantizers.specs.declared.lost.Packing.{Packing}
 use Rattle.quantizers.specs.declared.lost.Packing.TheVariants as packing
 use Rattle.quantizers.specs.declared.target.Target.TheVariants.{Q40}
-use Rattle.sums.specs.Says.{sumSays}
+use Rattle.sums.specs.Says.{sum_says}
 use Rattle.dots_activation.specs.Whole.{elem}
-use Rattle.dots_activation.specs.Blocks.{blockSaid, blockSays}
+use Rattle.dots_activation.specs.Blocks.{block_said, block_says}
 use Rattle.dots_activation.specs.declared.block.Q8Block.{Q8Block}
-use Rattle.memory.proofs.Every.{every-all}
-use Rattle.replay_answers.specs.Same.{sameBytes}
-use Rattle.bench_rows.specs.Card.{Row, row, widen, floats, valueBits, written_by, firstQuants, answer, card, row_at, same_numbers, answered}
+use Rattle.memory.proofs.Every.{every_all}
+use Rattle.replay_answers.specs.Same.{same_bytes}
+use Rattle.bench_rows.specs.Card.{Row, row, widen, floats, value_bits, written_by, first_quants, answer, card, row_at, same_numbers, answered}
 use Rattle.bench_rows.specs.Rows.{meant, judged}
 use Rattle.bench_rows.specs.declared.table.Row.TheVariants.{Packs, Sums, Quantizes}
-use Rattle.bench_rows.proofs.Card.{card-holds}
+use Rattle.bench_rows.proofs.Card.{card_holds}
 
 -- ---- Q4_0
 
@@ -40,55 +40,55 @@ abbrev pub sayings : ℕ → ℕ → ℕ → List ℕ
 sayings a b c = a ∷ b ∷ c ∷ replicate 15 0x88
 
 -- the readings of a row
-abbrev pub packedFrom : ℕ → List Float
-packedFrom first = floats (first ∷ replicate 31 0)
+abbrev pub packed_from : ℕ → List Float
+packed_from first = floats (first ∷ replicate 31 0)
 
-is-done : (first : ℕ) → quantizeSays Q40 (packedFrom first) (replicate 18 0) ≡ (value (lostBy Q40 (packedFrom first)), filled (packed_at Q40 (packedFrom first)) (replicate 18 0) 18)
-unfolding quantizeSays quantizeRefusal given or_else carriedOut
-is-done first = refl
+is_done : (first : ℕ) → quantize_says Q40 (packed_from first) (replicate 18 0) ≡ (value (lost_by Q40 (packed_from first)), filled (packed_at Q40 (packed_from first)) (replicate 18 0) 18)
+unfolding quantize_says quantize_refusal given or_else carried_out
+is_done first = refl
 
-same_length : (xs ys : List ℕ) → length xs ≡ length ys → sameBytes xs ys ≡ same_numbers xs ys
-unfolding sameBytes same_numbers
+same_length : (xs ys : List ℕ) → length xs ≡ length ys → same_bytes xs ys ≡ same_numbers xs ys
+unfolding same_bytes same_numbers
 same_length xs ys h = rw (h, le-ltb (length ys) (length ys) (omega arith), eq-eqb (length ys) (length ys) refl)
 
-module _ (first a b c : ℕ) (o : Packing) (out : List ℕ) (e : (packingSays o, out) ≡ quantizeSays Q40 (packedFrom first) (replicate 18 0)) where
-  pub packed-done : (why : Refusal) → o ≡ packing.Refused why → ⊥
-  packed-done why r =
-      let d : packingSays o ≡ value (lostBy Q40 (packedFrom first)) = ap (λ (p : Said Lost × List ℕ). p.0) (e ∙ is-done first) in
-      apart why _ (sym (ap packingSays r) ∙ d)
+module _ (first a b c : ℕ) (o : Packing) (out : List ℕ) (e : (packing_says o, out) ≡ quantize_says Q40 (packed_from first) (replicate 18 0)) where
+  pub packed_done : (why : Refusal) → o ≡ packing.Refused why → ⊥
+  packed_done why r =
+      let d : packing_says o ≡ value (lost_by Q40 (packed_from first)) = ap (λ (p : Said Lost × List ℕ). p.0) (e ∙ is_done first) in
+      apart why _ (sym (ap packing_says r) ∙ d)
 
-  pub packed-judged : sameBytes out (sayings a b c) ≡ judged (Packs first a b c)
+  pub packed_judged : same_bytes out (sayings a b c) ≡ judged (Packs first a b c)
   unfolding judged meant answered answer
-  packed-judged =
-      let d : out ≡ filled (packed_at Q40 (packedFrom first)) (replicate 18 0) 18 = ap (λ (p : Said Lost × List ℕ). p.1) (e ∙ is-done first) in
-      let l : length out ≡ 18 = ap length d ∙ length-filled (packed_at Q40 (packedFrom first)) (replicate 18 0) 18 (omega arith) in
+  packed_judged =
+      let d : out ≡ filled (packed_at Q40 (packed_from first)) (replicate 18 0) 18 = ap (λ (p : Said Lost × List ℕ). p.1) (e ∙ is_done first) in
+      let l : length out ≡ 18 = ap length d ∙ length_filled (packed_at Q40 (packed_from first)) (replicate 18 0) 18 (omega arith) in
       same_length out (sayings a b c) l
-      ∙ ap (λ (xs : List ℕ). same_numbers xs (sayings a b c)) (d ∙ sym (ap written_by (is-done first)))
+      ∙ ap (λ (xs : List ℕ). same_numbers xs (sayings a b c)) (d ∙ sym (ap written_by (is_done first)))
 
 -- ---- sums
 
-pub summed : (first bits : ℕ) (s : Said Float) → s ≡ sumSays (floats (first ∷ 0x3F800000 ∷ 0x3F800000 ∷ [])) 3 → same_numbers (valueBits s) (bits ∷ []) ≡ judged (Sums first bits)
+pub summed : (first bits : ℕ) (s : Said Float) → s ≡ sum_says (floats (first ∷ 0x3F800000 ∷ 0x3F800000 ∷ [])) 3 → same_numbers (value_bits s) (bits ∷ []) ≡ judged (Sums first bits)
 unfolding judged meant answered answer
-summed first bits s e = ap (λ (t : Said Float). same_numbers (valueBits t) (bits ∷ [])) e
+summed first bits s e = ap (λ (t : Said Float). same_numbers (value_bits t) (bits ∷ [])) e
 
 -- ---- activation blocks
 
-pub quantised : (x y inv a b c : ℕ) (block : Q8Block) → block ≡ blockSaid (blockSays (floats (x ∷ y ∷ 0 ∷ []))) → same_numbers (firstQuants 3 block) (inv ∷ a ∷ b ∷ c ∷ []) ≡ judged (Quantizes x y inv a b c)
+pub quantised : (x y inv a b c : ℕ) (block : Q8Block) → block ≡ block_said (block_says (floats (x ∷ y ∷ 0 ∷ []))) → same_numbers (first_quants 3 block) (inv ∷ a ∷ b ∷ c ∷ []) ≡ judged (Quantizes x y inv a b c)
 unfolding judged meant answered answer
-quantised x y inv a b c block e = ap (λ (r : Q8Block). same_numbers (firstQuants 3 r) (inv ∷ a ∷ b ∷ c ∷ [])) e
+quantised x y inv a b c block e = ap (λ (r : Q8Block). same_numbers (first_quants 3 r) (inv ∷ a ∷ b ∷ c ∷ [])) e
 
 -- ---- the card
 
-same-themselves : (xs : List ℕ) → same_numbers xs xs ≡ true
+same_themselves : (xs : List ℕ) → same_numbers xs xs ≡ true
 unfolding same_numbers
-same-themselves xs = rw (eq-eqb (length xs) (length xs) refl) (every-all _ _ (λ i h. eq-eqb (get_or xs i 0) (get_or xs i 0) refl))
+same_themselves xs = rw (eq-eqb (length xs) (length xs) refl) (every_all _ _ (λ i h. eq-eqb (get_or xs i 0) (get_or xs i 0) refl))
 
 -- every row of the card is answered with what it says
-pub row-answered : (n : ℕ) → answered (row_at n) ≡ true
+pub row_answered : (n : ℕ) → answered (row_at n) ≡ true
 unfolding answered row_at answer
-row-answered n =
+row_answered n =
     let f : Row → List ℕ = λ r. answer r.asks in
     let g : Row → List ℕ = λ r. r.says in
     let none = row (widen []) [] in
-    let e = sym (get_or-map f card (n - 1) none) ∙ ap (λ (l : List (List ℕ)). get_or l (n - 1) []) card-holds ∙ get_or-map g card (n - 1) none in
-    rw e (same-themselves (row_at n).says)
+    let e = sym (get_or-map f card (n - 1) none) ∙ ap (λ (l : List (List ℕ)). get_or l (n - 1) []) card_holds ∙ get_or-map g card (n - 1) none in
+    rw e (same_themselves (row_at n).says)

@@ -7,12 +7,12 @@ use Rattle.refusals.specs.Said.{Said, value, refused}
 use Rattle.memory.specs.Lists.{table, every}
 use Rattle.halves.specs.Binary16.{widened, narrowed}
 use Rattle.numbers.specs.Fields.{byte_of}
-use Rattle.readings.specs.Readings.{inverse, quantQ8}
-use Rattle.quantizers.specs.Says.{quantizeSays}
+use Rattle.readings.specs.Readings.{inverse, quant_q8}
+use Rattle.quantizers.specs.Says.{quantize_says}
 use Rattle.quantizers.specs.declared.target.Target.TheVariants.{Q40}
-use Rattle.sums.specs.Says.{sumSays}
+use Rattle.sums.specs.Says.{sum_says}
 use Rattle.dots_activation.specs.Whole.{elem}
-use Rattle.dots_activation.specs.Blocks.{blockSaid, blockSays}
+use Rattle.dots_activation.specs.Blocks.{block_said, block_says}
 use Rattle.dots_activation.specs.declared.block.Q8Block.{Q8Block}
 
 -- What a row asks. A float is given by its bits, as the card writes it.
@@ -42,9 +42,9 @@ abbrev pub floats : List ℕ → List Float
 floats bs = map (of_bits binary32) bs
 
 -- the bits of the value that a sum answers; a refusal has none
-abbrev pub valueBits : Said Float → List ℕ
-valueBits (value v) = to_bits binary32 v ∷ []
-valueBits (refused why) = []
+abbrev pub value_bits : Said Float → List ℕ
+value_bits (value v) = to_bits binary32 v ∷ []
+value_bits (refused why) = []
 
 -- what stands in the output of a call that is done; a refusal writes nothing
 abbrev pub written_by : {A : Type 0} → Said A × List ℕ → List ℕ
@@ -52,18 +52,18 @@ written_by (value said, out) = out
 written_by (refused why, out) = []
 
 -- of an activation block of n readings: the inverse of its scale, and their quants
-abbrev pub firstQuants : ℕ → Q8Block → List ℕ
-firstQuants n block = to_bits binary32 (inverse block.d) ∷ table (λ i. byte_of (elem block.qs i)) n
+abbrev pub first_quants : ℕ → Q8Block → List ℕ
+first_quants n block = to_bits binary32 (inverse block.d) ∷ table (λ i. byte_of (elem block.qs i)) n
 
 -- what the definitions answer
 unfoldable pub answer : Asked → List ℕ
 answer (widen hs) = map (λ h. to_bits binary32 (widened h)) hs
 answer (encode bs) = map narrowed bs
-answer (packed bs) = written_by (quantizeSays Q40 (floats bs) (replicate 18 0))
-answer (sum bs) = valueBits (sumSays (floats bs) (length bs))
+answer (packed bs) = written_by (quantize_says Q40 (floats bs) (replicate 18 0))
+answer (sum bs) = value_bits (sum_says (floats bs) (length bs))
 answer (becomes n) = to_bits binary32 (of_int binary32 n) ∷ []
-answer (quants bs) = firstQuants (length bs) (blockSaid (blockSays (floats bs)))
-answer (gives b) = byte_of (quantQ8 (of_bits binary32 b)) ∷ []
+answer (quants bs) = first_quants (length bs) (block_said (block_says (floats bs)))
+answer (gives b) = byte_of (quant_q8 (of_bits binary32 b)) ∷ []
 
 -- a row of the card
 abbrev pub row : Asked → List ℕ → Row

@@ -1,6 +1,6 @@
 // Whether the compiled code answers a row as the row says: a function for each kind of row, and one for all.
 ghost use Rattle.std.specs.Prelude.{true, [], ◌∷◌, ◌≡◌, ◌<◌, ◌≤◌};
-ghost use Rattle.bench_rows.specs.Card.{firstQuants, same_numbers};
+ghost use Rattle.bench_rows.specs.Card.{first_quants, same_numbers};
 ghost use Rattle.bench_rows.specs.Rows.{judged};
 
 use crate::table::Row;
@@ -77,7 +77,7 @@ fn sums_to(first: u32, bits: u32) -> bool
 
 // The inverse of a block's scale, and its first three quants, as bytes.
 fn block_is(block: Q8Block, inverse: u32, a: u8, b: u8, c: u8) -> bool
-    ensures { result ≡ same_numbers (firstQuants 3 block) (inverse ∷ a ∷ b ∷ c ∷ []) }
+    ensures { result ≡ same_numbers (first_quants 3 block) (inverse ∷ a ∷ b ∷ c ∷ []) }
 {
     let qs = block.qs;
     if bits_of(inverse_of(block.d)) != inverse {

@@ -1,7 +1,7 @@
 // How an activation block is handed to C: as four places, its scale, its quants, its sums and its count.
 ghost use Rattle.std.specs.Prelude.{◌≡◌};
-ghost use Rattle.dots_activation.specs.Blocks.{blockIn, quantizedSays};
-ghost use Rattle.c_answers.specs.Answers.{laidOut};
+ghost use Rattle.dots_activation.specs.Blocks.{block_in, quantized_says};
+ghost use Rattle.c_answers.specs.Answers.{laid_out};
 
 use dots_activation::Quantized;
 use refusals::Check;
@@ -14,9 +14,9 @@ pub fn lay_out_block(
     bsums: &mut [i32; 8],
     count: &mut usize,
 ) -> u32
-    ensures { (result, blockIn d.new qs.new bsums.new count.new)
-        ≡ laidOut (quantizedSays made)
-        (blockIn d.old qs.old bsums.old count.old) }
+    ensures { (result, block_in d.new qs.new bsums.new count.new)
+        ≡ laid_out (quantized_says made)
+        (block_in d.old qs.old bsums.old count.old) }
 {
     let checked = made.checked;
     if let Check::Refused(refusal) = checked {

@@ -1,7 +1,7 @@
 // How what run says is handed to C: its number is returned, and its two counts and its block counts go through pointers.
 ghost use Rattle.std.specs.Prelude.{◌≡◌};
-ghost use Rattle.stepped_shape.specs.Progress.{ran, progressSays};
-ghost use Rattle.c_answers.specs.Answers.{laidOutBlocks};
+ghost use Rattle.stepped_shape.specs.Progress.{ran, progress_says};
+ghost use Rattle.c_answers.specs.Answers.{laid_out_blocks};
 
 use crate::answers::refused_by;
 use stepped_shape::Progress;
@@ -14,7 +14,7 @@ pub fn lay_out_counts(
     blocks: &mut [usize; 2],
 ) -> u32
     ensures { (result, (ran done.new left.new, blocks.new))
-        ≡ laidOutBlocks (progressSays progress) (ran done.old left.old) blocks.old }
+        ≡ laid_out_blocks (progress_says progress) (ran done.old left.old) blocks.old }
 {
     match progress {
         Progress::Ran {

@@ -1,15 +1,15 @@
 // How C is handed how a number fared when it was narrowed, and what a quantizer's scales lost.
 ghost use Rattle.std.specs.Prelude.{◌≡◌};
-ghost use Rattle.quantizers.specs.Lost.{packingSays};
+ghost use Rattle.quantizers.specs.Lost.{packing_says};
 ghost use Rattle.c_answers.specs.Answers.{number_of};
-ghost use Rattle.c_answers.specs.Lost.{howNumber, lostAfter};
+ghost use Rattle.c_answers.specs.Lost.{how_number, lost_after};
 
 use halves::How;
 use quantizers::Packing;
 
 // The number of how a number fared: 0 exact, 1 cut, 2 flushed, 3 sent to infinity.
 pub fn number_of_how(how: How) -> u32
-    ensures { result ≡ howNumber how }
+    ensures { result ≡ how_number how }
 {
     match how {
         How::Exact => 0,
@@ -21,8 +21,8 @@ pub fn number_of_how(how: How) -> u32
 
 // The number of a quantizer, whose two counts are stored where it is done.
 pub fn number_and_lost(packing: Packing, lost: &mut [usize; 2]) -> u32
-    ensures { (result ≡ number_of (packingSays packing))
-        × (lost.new ≡ lostAfter (packingSays packing) lost.old) }
+    ensures { (result ≡ number_of (packing_says packing))
+        × (lost.new ≡ lost_after (packing_says packing) lost.old) }
 {
     match packing {
         Packing::Packed(counts) => {

@@ -2,23 +2,23 @@
 use Prim.{Unit}
 use Rattle.std.specs.Prelude.{ℕ, ◌%◌, not, List, ltb, eqb, length}
 use Rattle.refusals.specs.Said.{Said, no, done}
-use Rattle.refusals.specs.Sizes.{mostBytes}
-use Rattle.refusals.specs.Refusals.{given, carriedOut}
+use Rattle.refusals.specs.Sizes.{most_bytes}
+use Rattle.refusals.specs.Refusals.{given, carried_out}
 use Rattle.memory.specs.Lists.{filled}
 use Rattle.layouts.specs.Formats.{bytes32}
 use Rattle.layouts.specs.declared.format.Format32.TheVariants.{Q40}
-use Rattle.converters.specs.Orders.{convertedAt}
+use Rattle.converters.specs.Orders.{converted_at}
 use Rattle.converters.specs.declared.direction.Direction.{Direction}
 
 -- 6 over the size, 1 for packed bytes that are not whole blocks, 5 for an output shorter than the bytes
-unfoldable pub convertRefusal : ℕ → ℕ → Said (Unit {0})
-convertRefusal n room =
-    given (no 6) (ltb mostBytes n)
+unfoldable pub convert_refusal : ℕ → ℕ → Said (Unit {0})
+convert_refusal n room =
+    given (no 6) (ltb most_bytes n)
     (given (no 1) (not (eqb (n % bytes32 Q40) 0))
     (given (no 5) (ltb room n)
     done))
 
 -- every block in the other order at the front of the output, whose surplus places are kept
-unfoldable pub convertSays : Direction → List ℕ → List ℕ → Said (Unit {0}) × List ℕ
-convertSays d bs out =
-    carriedOut (convertRefusal (length bs) (length out)) (filled (convertedAt d bs) out (length bs)) out
+unfoldable pub convert_says : Direction → List ℕ → List ℕ → Said (Unit {0}) × List ℕ
+convert_says d bs out =
+    carried_out (convert_refusal (length bs) (length out)) (filled (converted_at d bs) out (length bs)) out

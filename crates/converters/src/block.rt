@@ -1,7 +1,7 @@
 // One block in the other order.
 ghost use Rattle.std.specs.Prelude.{◌≡◌, ◌+◌, ◌*◌, ◌/◌, ◌%◌, length};
 ghost use Rattle.memory.specs.Lists.{table};
-ghost use Rattle.converters.specs.Orders.{movedByte, convertedByte};
+ghost use Rattle.converters.specs.Orders.{moved_byte, converted_byte};
 
 use crate::direction::Direction;
 
@@ -22,7 +22,7 @@ fn high_nibbles(a: u8, b: u8) -> u8
 // Neighbours move 16 places apart: bytes k and k + 8 of the nibbles become bytes 2k and 2k + 1.
 fn move_apart(block: &[u8], out: &mut [u8])
     requires { (length block.now ≡ 18) × (length out.old ≡ 16) }
-    ensures { out.new ≡ table (movedByte Direction.ToGgml block.now) 16 }
+    ensures { out.new ≡ table (moved_byte Direction.ToGgml block.now) 16 }
 {
     for k in 0..8usize {
         let a = block[2 + k];
@@ -35,7 +35,7 @@ fn move_apart(block: &[u8], out: &mut [u8])
 // Back: bytes 2k and 2k + 1 of the nibbles become bytes k and k + 8.
 fn move_together(block: &[u8], out: &mut [u8])
     requires { (length block.now ≡ 18) × (length out.old ≡ 16) }
-    ensures { out.new ≡ table (movedByte Direction.FromGgml block.now) 16 }
+    ensures { out.new ≡ table (moved_byte Direction.FromGgml block.now) 16 }
 {
     for k in 0..8usize {
         let a = block[2 + 2 * k];
@@ -48,7 +48,7 @@ fn move_together(block: &[u8], out: &mut [u8])
 // One block: the scale's two bytes as they are, and the nibbles in the other order.
 pub fn convert_block(direction: Direction, block: &[u8], out: &mut [u8])
     requires { (length block.now ≡ 18) × (length out.old ≡ 18) }
-    ensures { out.new ≡ table (convertedByte direction block.now) 18 }
+    ensures { out.new ≡ table (converted_byte direction block.now) 18 }
 {
     out[0] = block[0];
     out[1] = block[1];

@@ -1,9 +1,9 @@
 // The converters: every block in the other order, each in its own places in the middle of the output.
 ghost use Rattle.std.specs.Prelude.{◌≡◌, ◌%◌, ◌≤◌, length};
-ghost use Rattle.refusals.specs.Said.{checkSays, outcomeSays};
+ghost use Rattle.refusals.specs.Said.{check_says, outcome_says};
 ghost use Rattle.memory.specs.Lists.{filled};
-ghost use Rattle.converters.specs.Orders.{convertedAt};
-ghost use Rattle.converters.specs.Says.{convertRefusal, convertSays};
+ghost use Rattle.converters.specs.Orders.{converted_at};
+ghost use Rattle.converters.specs.Says.{convert_refusal, convert_says};
 
 use crate::block::convert_block;
 use crate::direction::Direction;
@@ -13,7 +13,7 @@ use refusals::{Check, Outcome};
 fn convert_blocks(direction: Direction, bytes: &[u8], out: &mut [u8])
     requires { (length bytes.now % 18 ≡ 0) × (length bytes.now ≤ length out.old) }
     ensures { out.new
-        ≡ filled (convertedAt direction bytes.now) out.old (length bytes.now) }
+        ≡ filled (converted_at direction bytes.now) out.old (length bytes.now) }
 {
     let count = bytes.len() / 18;
     let mut b: usize = 0;
@@ -27,7 +27,7 @@ fn convert_blocks(direction: Direction, bytes: &[u8], out: &mut [u8])
 
 // Why a converter of n bytes into `room` places refuses.
 fn convert_refusal(n: usize, room: usize) -> Check
-    ensures { checkSays result ≡ convertRefusal n room }
+    ensures { check_says result ≡ convert_refusal n room }
 {
     if n > refusals::MOST_BYTES {
         return Check::Refused(refusals::TOO_LARGE);
@@ -42,8 +42,8 @@ fn convert_refusal(n: usize, room: usize) -> Check
 }
 
 fn convert(direction: Direction, bytes: &[u8], out: &mut [u8]) -> Outcome
-    ensures { (outcomeSays result, out.new)
-        ≡ convertSays direction bytes.now out.old }
+    ensures { (outcome_says result, out.new)
+        ≡ convert_says direction bytes.now out.old }
 {
     let checked = convert_refusal(bytes.len(), out.len());
     if let Check::Refused(refusal) = checked {
@@ -55,16 +55,16 @@ fn convert(direction: Direction, bytes: &[u8], out: &mut [u8]) -> Outcome
 
 // Q4_0 blocks that pair neighbours, in GGML's order. Both calls refuse 6, 1 and 5, in this order.
 pub fn q4_0_to_ggml(bytes: &[u8], out: &mut [u8]) -> Outcome
-    ensures { (outcomeSays result, out.new)
-        ≡ convertSays Direction.ToGgml bytes.now out.old }
+    ensures { (outcome_says result, out.new)
+        ≡ convert_says Direction.ToGgml bytes.now out.old }
 {
     convert(Direction::ToGgml, bytes, out)
 }
 
 // Q4_0 blocks in GGML's order, with neighbours paired.
 pub fn q4_0_from_ggml(bytes: &[u8], out: &mut [u8]) -> Outcome
-    ensures { (outcomeSays result, out.new)
-        ≡ convertSays Direction.FromGgml bytes.now out.old }
+    ensures { (outcome_says result, out.new)
+        ≡ convert_says Direction.FromGgml bytes.now out.old }
 {
     convert(Direction::FromGgml, bytes, out)
 }

@@ -8,7 +8,7 @@ use lib.Ieee.{Float, binary32, mul, of_int}
 use Rattle.halves.specs.Binary16.{widened}
 use Rattle.numbers.specs.Fields.{le16}
 use Rattle.memory.specs.Lists.{table}
-use Rattle.memory.proofs.Filled.{getD-table, table-ext}
+use Rattle.memory.proofs.Filled.{get_or_table, table_ext}
 use Rattle.layouts.specs.Of32.{quant32, value32}
 use Rattle.layouts.specs.declared.format.Format32.{Format32}
 
@@ -21,9 +21,9 @@ abbrev pub at : Float → List ℤ → ℕ → Float
 at s q i = times s (get_or q i (pos 0))
 
 -- the values by whole numbers that are a block's
-pub of-quants : (f : Format32) (bs : List ℕ) (s : Float) (q : List ℤ) → q ≡ table (quant32 f bs) 32 → table (at s q) 32 ≡ table (λ j. times s (quant32 f bs j)) 32
-of-quants f bs s q e = table-ext (at s q) (λ j. times s (quant32 f bs j)) 32 (λ j h. rw (e, getD-table (quant32 f bs) 32 j (pos 0) h))
+pub of_quants : (f : Format32) (bs : List ℕ) (s : Float) (q : List ℤ) → q ≡ table (quant32 f bs) 32 → table (at s q) 32 ≡ table (λ j. times s (quant32 f bs j)) 32
+of_quants f bs s q e = table_ext (at s q) (λ j. times s (quant32 f bs j)) 32 (λ j h. rw (e, get_or_table (quant32 f bs) 32 j (pos 0) h))
 
 -- .. and by a scale that is the block's
-pub of-scale : (f : Format32) (bs : List ℕ) (s : Float) → s ≡ widened (le16 bs 0) → table (λ j. times s (quant32 f bs j)) 32 ≡ table (value32 f bs) 32
-of-scale f bs s e = rw e
+pub of_scale : (f : Format32) (bs : List ℕ) (s : Float) → s ≡ widened (le16 bs 0) → table (λ j. times s (quant32 f bs j)) 32 ≡ table (value32 f bs) 32
+of_scale f bs s e = rw e

@@ -4,8 +4,8 @@ ghost use Rattle.std.specs.Prelude.{◌≡◌, ◌≤◌, pos, length, get_or};
 ghost use Rattle.std.specs.Float.{binary32};
 ghost use Rattle.std.specs.Float.Ieee.{mul, sub, of_int};
 ghost use Rattle.memory.specs.Lists.{table};
-ghost use Rattle.layouts.specs.Formats.{bytesK};
-ghost use Rattle.layouts.specs.K.{value_of, valueK};
+ghost use Rattle.layouts.specs.Formats.{bytes_k};
+ghost use Rattle.layouts.specs.K.{value_of, value_k};
 
 use crate::of32::scale_run;
 use layouts::FormatK;
@@ -52,8 +52,8 @@ fn decode_runs(block: &[u8], q: &[i8], out: &mut [f32])
 // One block's 256 values. The formats with minimums share one call of their decoder: with a call for each the compiler
 // would not put it into the loop over blocks.
 pub fn decode_k(format: FormatK, block: &[u8], out: &mut [f32])
-    requires { (length block.now ≡ bytesK format) × (length out.old ≡ 256) }
-    ensures { out.new ≡ table (valueK format block.now) 256 }
+    requires { (length block.now ≡ bytes_k format) × (length out.old ≡ 256) }
+    ensures { out.new ≡ table (value_k format block.now) 256 }
 {
     match format {
         FormatK::Q4K | FormatK::Q5K => {

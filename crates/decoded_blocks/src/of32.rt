@@ -4,7 +4,7 @@ ghost use Rattle.std.specs.Float.{binary32};
 ghost use Rattle.std.specs.Float.Ieee.{mul, of_int};
 ghost use Rattle.memory.specs.Lists.{table};
 ghost use Rattle.layouts.specs.Formats.{bytes32};
-ghost use Rattle.layouts.specs.Of32.{valueIq4Nl, quant32, value32};
+ghost use Rattle.layouts.specs.Of32.{value_iq4_nl, quant32, value32};
 
 use layouts::Format32;
 
@@ -34,7 +34,7 @@ fn scale_quants(q: &[i8], s: f32, out: &mut [f32])
 
 // IQ4_NL's sixteen values, each times the scale s.
 fn scaled_values(s: f32) -> [f32; 16]
-    ensures { result ≡ table (λ n. mul binary32 s (of_int binary32 (valueIq4Nl n))) 16 }
+    ensures { result ≡ table (λ n. mul binary32 s (of_int binary32 (value_iq4_nl n))) 16 }
 {
     let values = layouts::values_iq4_nl();
     let mut scaled = [0.0f32; 16];

@@ -7,23 +7,23 @@ use native.Mathlib.Omega.{arith}
 use lib.ListN.{length, take, drop}
 use lib.Seq.{take_all}
 use Rattle.memory.proofs.Filled.{part_length}
-use Rattle.layouts.specs.Formats.{blockBytes, blockValues}
-use Rattle.layouts.specs.Weights.{valueIn, weightAt, values_of}
+use Rattle.layouts.specs.Formats.{block_bytes, block_values}
+use Rattle.layouts.specs.Weights.{value_in, weight_at, values_of}
 use Rattle.layouts.specs.declared.format.Format.{Format}
 use Rattle.layouts.proofs.Sizes.{sizes}
-use Rattle.layouts.proofs.Rows.{weight-skip, weight-front}
+use Rattle.layouts.proofs.Rows.{weight_skip, weight_front}
 
 -- ---- one block
 
-module _ (f : Format) (bs : List ℕ) (whole : length bs ≡ blockBytes f) where
-  pub block-values : values_of f (length bs) ≡ blockValues f
-  block-values =
-      let positive : 0 < blockBytes f = omega (arith, sizes f) in
-      rw (whole, div_self positive) (one-mul (blockValues f))
+module _ (f : Format) (bs : List ℕ) (whole : length bs ≡ block_bytes f) where
+  pub block_values_lem : values_of f (length bs) ≡ block_values f
+  block_values_lem =
+      let positive : 0 < block_bytes f = omega (arith, sizes f) in
+      rw (whole, div_self positive) (one-mul (block_values f))
 
-  pub block-weight : (i : ℕ) → i < blockValues f → weightAt f bs i ≡ valueIn f bs i
-  unfolding weightAt
-  block-weight i h = rw (div-eq_of_lt h, mod-eq_of_lt h, zero-mul (blockBytes f), take_all (blockBytes f) bs (le_of_eq whole))
+  pub block_weight : (i : ℕ) → i < block_values f → weight_at f bs i ≡ value_in f bs i
+  unfolding weight_at
+  block_weight i h = rw (div-eq_of_lt h, mod-eq_of_lt h, zero-mul (block_bytes f), take_all (block_bytes f) bs (le_of_eq whole))
 
 -- ---- a row
 
@@ -32,8 +32,8 @@ module _
     (f : Format)
     (w : List ℕ)
     (from n size v : ℕ)
-    (S : size ≡ blockBytes f)
-    (W : v ≡ blockValues f)
+    (S : size ≡ block_bytes f)
+    (W : v ≡ block_values f)
     (rest : from % v + n % v ≤ 0)
     (room : from + n ≤ values_of f (length w)) where
   first : from / v * v ≡ from
@@ -54,19 +54,19 @@ module _
   abbrev lent : List ℕ
   lent = take (from / v * size + n / v * size - from / v * size) (drop (from / v * size) w)
 
-  pub row-values : values_of f (length lent) ≡ n
-  row-values =
+  pub row_values : values_of f (length lent) ≡ n
+  row_values =
       let some : 0 < size = omega (arith, sizes f, S) in
       let long : length lent ≡ n / v * size = part_length w (from / v * size) (n / v * size) (from / v * size + n / v * size) refl row_fits in
       rw (long, ← S, ← W, mul-div_cancel (n / v) some) all
 
-  pub row-weights : (i : ℕ) → i < n → weightAt f lent i ≡ weightAt f w (from + i)
-  row-weights i h =
-      let z = blockBytes f in
+  pub row_weights : (i : ℕ) → i < n → weight_at f lent i ≡ weight_at f w (from + i)
+  row_weights i h =
+      let z = block_bytes f in
       let d : from / v * size + n / v * size - from / v * size ≡ n / v * z = rw S (omega arith) in
-      let within : i < n / v * blockValues f = rw (← W, all) h in
-      ap (λ (k : ℕ). weightAt f (take k (drop (from / v * size) w)) i) d
-      ∙ ap (λ (k : ℕ). weightAt f (take (n / v * z) (drop (from / v * k) w)) i) S
-      ∙ weight-front f (drop (from / v * z) w) (n / v) i within
-      ∙ weight-skip f w (from / v) i
-      ∙ ap (λ (k : ℕ). weightAt f w (k + i)) (ap (λ (k : ℕ). from / v * k) (sym W) ∙ first)
+      let within : i < n / v * block_values f = rw (← W, all) h in
+      ap (λ (k : ℕ). weight_at f (take k (drop (from / v * size) w)) i) d
+      ∙ ap (λ (k : ℕ). weight_at f (take (n / v * z) (drop (from / v * k) w)) i) S
+      ∙ weight_front f (drop (from / v * z) w) (n / v) i within
+      ∙ weight_skip f w (from / v) i
+      ∙ ap (λ (k : ℕ). weight_at f w (k + i)) (ap (λ (k : ℕ). from / v * k) (sym W) ∙ first)

@@ -1,17 +1,17 @@
 // A row that may start or end inside a block, and a row of whole blocks.
 ghost use Rattle.std.specs.Prelude.{◌≡◌, ◌+◌, ◌^◌, ◌≤◌, ◌<◌, min, length};
 ghost use Rattle.memory.specs.Lists.{table};
-ghost use Rattle.layouts.specs.Formats.{blockBytes, blockValues};
-ghost use Rattle.layouts.specs.Weights.{valueIn, weightAt, values_of};
+ghost use Rattle.layouts.specs.Formats.{block_bytes, block_values};
+ghost use Rattle.layouts.specs.Weights.{value_in, weight_at, values_of};
 
 use decoders::decode_blocks;
 use layouts::Format;
 
 // The values of a block from place `from` on, as many as there is room for.
 fn decode_within(format: Format, block: &[u8], from: usize, out: &mut [f32])
-    requires { (length block.now ≡ blockBytes format) × (from + length out.old ≤ blockValues format) }
+    requires { (length block.now ≡ block_bytes format) × (from + length out.old ≤ block_values format) }
     ensures { out.new
-        ≡ table (λ i. valueIn format block.now (from + i)) (length out.old) }
+        ≡ table (λ i. value_in format block.now (from + i)) (length out.old) }
 {
     let values = layouts::block_values(format);
     let mut whole = [0.0f32; 256];
@@ -32,7 +32,7 @@ fn smaller(a: usize, b: usize) -> usize
 fn decode_parts(format: Format, w: &[u8], from: usize, out: &mut [f32])
     requires { (from + length out.old ≤ values_of format (length w.now)) × (from + length out.old < 2 ^ 63) }
     ensures { out.new
-        ≡ table (λ i. weightAt format w.now (from + i)) (length out.old) }
+        ≡ table (λ i. weight_at format w.now (from + i)) (length out.old) }
 {
     let size = layouts::block_bytes(format);
     let values = layouts::block_values(format);
@@ -53,7 +53,7 @@ fn decode_parts(format: Format, w: &[u8], from: usize, out: &mut [f32])
 pub fn decode_row(format: Format, w: &[u8], from: usize, out: &mut [f32])
     requires { (from + length out.old ≤ values_of format (length w.now)) × (from + length out.old < 2 ^ 63) }
     ensures { out.new
-        ≡ table (λ i. weightAt format w.now (from + i)) (length out.old) }
+        ≡ table (λ i. weight_at format w.now (from + i)) (length out.old) }
 {
     let size = layouts::block_bytes(format);
     let values = layouts::block_values(format);

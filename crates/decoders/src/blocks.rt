@@ -1,10 +1,10 @@
 // The block decoders: every block's values, each block's in its own places in the middle of the output.
 ghost use Rattle.std.specs.Prelude.{◌≡◌, ◌≤◌, length};
-ghost use Rattle.refusals.specs.Said.{checkSays, outcomeSays};
+ghost use Rattle.refusals.specs.Said.{check_says, outcome_says};
 ghost use Rattle.memory.specs.Lists.{table, filled};
-ghost use Rattle.layouts.specs.Formats.{blockBytes, blockValues};
-ghost use Rattle.layouts.specs.Weights.{valueIn, weightAt, values_of};
-ghost use Rattle.decoders.specs.Says.{dequantizeRefusal, dequantizeSays};
+ghost use Rattle.layouts.specs.Formats.{block_bytes, block_values};
+ghost use Rattle.layouts.specs.Weights.{value_in, weight_at, values_of};
+ghost use Rattle.decoders.specs.Says.{dequantize_refusal, dequantize_says};
 
 use crate::q8_0::decode_q8_0_blocks;
 use decoded_blocks::{decode_32, decode_k};
@@ -13,8 +13,8 @@ use refusals::{Check, Outcome};
 
 // One block's values.
 fn decode_block(format: Format, block: &[u8], out: &mut [f32])
-    requires { (length block.now ≡ blockBytes format) × (length out.old ≡ blockValues format) }
-    ensures { out.new ≡ table (valueIn format block.now) (blockValues format) }
+    requires { (length block.now ≡ block_bytes format) × (length out.old ≡ block_values format) }
+    ensures { out.new ≡ table (value_in format block.now) (block_values format) }
 {
     match format {
         Format::Of32(f) => decode_32(f, block, out),
@@ -26,7 +26,7 @@ fn decode_block(format: Format, block: &[u8], out: &mut [f32])
 fn decode_each(format: Format, bytes: &[u8], out: &mut [f32])
     requires { values_of format (length bytes.now) ≤ length out.old }
     ensures { out.new
-        ≡ filled (weightAt format bytes.now) out.old
+        ≡ filled (weight_at format bytes.now) out.old
         (values_of format (length bytes.now)) }
 {
     let size = block_bytes(format);
@@ -48,7 +48,7 @@ fn decode_each(format: Format, bytes: &[u8], out: &mut [f32])
 pub fn decode_blocks(format: Format, bytes: &[u8], out: &mut [f32])
     requires { values_of format (length bytes.now) ≤ length out.old }
     ensures { out.new
-        ≡ filled (weightAt format bytes.now) out.old
+        ≡ filled (weight_at format bytes.now) out.old
         (values_of format (length bytes.now)) }
 {
     if let Format::Of32(f) = format {
@@ -62,7 +62,7 @@ pub fn decode_blocks(format: Format, bytes: &[u8], out: &mut [f32])
 
 // Why a decoder of n bytes into `room` places refuses.
 fn dequantize_refusal(format: Format, n: usize, room: usize) -> Check
-    ensures { checkSays result ≡ dequantizeRefusal format n room }
+    ensures { check_says result ≡ dequantize_refusal format n room }
 {
     let size = block_bytes(format);
     if n > refusals::MOST_BYTES {
@@ -78,8 +78,8 @@ fn dequantize_refusal(format: Format, n: usize, room: usize) -> Check
 }
 
 fn dequantize(format: Format, bytes: &[u8], out: &mut [f32]) -> Outcome
-    ensures { (outcomeSays result, out.new)
-        ≡ dequantizeSays format bytes.now out.old }
+    ensures { (outcome_says result, out.new)
+        ≡ dequantize_says format bytes.now out.old }
 {
     let checked = dequantize_refusal(format, bytes.len(), out.len());
     if let Check::Refused(refusal) = checked {
@@ -91,64 +91,64 @@ fn dequantize(format: Format, bytes: &[u8], out: &mut [f32]) -> Outcome
 
 // Q4_0: 32 values to a block of 18 bytes. Each of these calls refuses 6, 1 and 5, in this order.
 pub fn dequantize_q4_0(bytes: &[u8], out: &mut [f32]) -> Outcome
-    ensures { (outcomeSays result, out.new)
-        ≡ dequantizeSays (Format.Of32 Format32.Q40) bytes.now out.old }
+    ensures { (outcome_says result, out.new)
+        ≡ dequantize_says (Format.Of32 Format32.Q40) bytes.now out.old }
 {
     dequantize(Format::Of32(Format32::Q40), bytes, out)
 }
 
 // Q4_0 in GGML's order: 32 values to a block of 18 bytes.
 pub fn dequantize_q4_0_ggml(bytes: &[u8], out: &mut [f32]) -> Outcome
-    ensures { (outcomeSays result, out.new)
-        ≡ dequantizeSays (Format.Of32 Format32.Q40Ggml) bytes.now out.old }
+    ensures { (outcome_says result, out.new)
+        ≡ dequantize_says (Format.Of32 Format32.Q40Ggml) bytes.now out.old }
 {
     dequantize(Format::Of32(Format32::Q40Ggml), bytes, out)
 }
 
 // Q5_0: 32 values to a block of 22 bytes.
 pub fn dequantize_q5_0(bytes: &[u8], out: &mut [f32]) -> Outcome
-    ensures { (outcomeSays result, out.new)
-        ≡ dequantizeSays (Format.Of32 Format32.Q50) bytes.now out.old }
+    ensures { (outcome_says result, out.new)
+        ≡ dequantize_says (Format.Of32 Format32.Q50) bytes.now out.old }
 {
     dequantize(Format::Of32(Format32::Q50), bytes, out)
 }
 
 // Q8_0: 32 values to a block of 34 bytes.
 pub fn dequantize_q8_0(bytes: &[u8], out: &mut [f32]) -> Outcome
-    ensures { (outcomeSays result, out.new)
-        ≡ dequantizeSays (Format.Of32 Format32.Q80) bytes.now out.old }
+    ensures { (outcome_says result, out.new)
+        ≡ dequantize_says (Format.Of32 Format32.Q80) bytes.now out.old }
 {
     dequantize(Format::Of32(Format32::Q80), bytes, out)
 }
 
 // IQ4_NL: 32 values to a block of 18 bytes.
 pub fn dequantize_iq4_nl(bytes: &[u8], out: &mut [f32]) -> Outcome
-    ensures { (outcomeSays result, out.new)
-        ≡ dequantizeSays (Format.Of32 Format32.Iq4Nl) bytes.now out.old }
+    ensures { (outcome_says result, out.new)
+        ≡ dequantize_says (Format.Of32 Format32.Iq4Nl) bytes.now out.old }
 {
     dequantize(Format::Of32(Format32::Iq4Nl), bytes, out)
 }
 
 // Q4_K: 256 values to a block of 144 bytes.
 pub fn dequantize_q4_k(bytes: &[u8], out: &mut [f32]) -> Outcome
-    ensures { (outcomeSays result, out.new)
-        ≡ dequantizeSays (Format.OfK FormatK.Q4K) bytes.now out.old }
+    ensures { (outcome_says result, out.new)
+        ≡ dequantize_says (Format.OfK FormatK.Q4K) bytes.now out.old }
 {
     dequantize(Format::OfK(FormatK::Q4K), bytes, out)
 }
 
 // Q5_K: 256 values to a block of 176 bytes.
 pub fn dequantize_q5_k(bytes: &[u8], out: &mut [f32]) -> Outcome
-    ensures { (outcomeSays result, out.new)
-        ≡ dequantizeSays (Format.OfK FormatK.Q5K) bytes.now out.old }
+    ensures { (outcome_says result, out.new)
+        ≡ dequantize_says (Format.OfK FormatK.Q5K) bytes.now out.old }
 {
     dequantize(Format::OfK(FormatK::Q5K), bytes, out)
 }
 
 // Q6_K: 256 values to a block of 210 bytes.
 pub fn dequantize_q6_k(bytes: &[u8], out: &mut [f32]) -> Outcome
-    ensures { (outcomeSays result, out.new)
-        ≡ dequantizeSays (Format.OfK FormatK.Q6K) bytes.now out.old }
+    ensures { (outcome_says result, out.new)
+        ≡ dequantize_says (Format.OfK FormatK.Q6K) bytes.now out.old }
 {
     dequantize(Format::OfK(FormatK::Q6K), bytes, out)
 }

@@ -1,7 +1,7 @@
 // Q8_0's blocks: the sizes are numbers, so that the compiler makes vectors of a whole block.
 ghost use Rattle.std.specs.Prelude.{◌≡◌, ◌≤◌, length};
 ghost use Rattle.memory.specs.Lists.{filled};
-ghost use Rattle.layouts.specs.Weights.{weightAt, values_of};
+ghost use Rattle.layouts.specs.Weights.{weight_at, values_of};
 
 use decoded_blocks::decode_q8_0;
 use layouts::{Format, Format32};
@@ -10,7 +10,7 @@ use layouts::{Format, Format32};
 pub(crate) fn decode_q8_0_blocks(bytes: &[u8], out: &mut [f32])
     requires { values_of (Format.Of32 Format32.Q80) (length bytes.now) ≤ length out.old }
     ensures { out.new
-        ≡ filled (weightAt (Format.Of32 Format32.Q80) bytes.now) out.old
+        ≡ filled (weight_at (Format.Of32 Format32.Q80) bytes.now) out.old
         (values_of (Format.Of32 Format32.Q80) (length bytes.now)) }
 {
     let count = bytes.len() / 34;

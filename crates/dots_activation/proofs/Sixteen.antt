@@ -50,8 +50,8 @@ module _ (f : ℕ → ℤ) (B : ℕ) where
   abbrev pub Streamed : List ℤ → ℕ → Type 0
   Streamed t l = Done f (pos 0) (λ i. i % 16) 128 t l × ((i : ℕ) → i < 128 → i % 16 < l → Within B (f i)) × (l ≤ 16)
 
-  pub streamed-none : (t : List ℤ) → length t ≡ 128 → Streamed t 0
-  streamed-none t n = (done_none f (pos 0) (λ i. i % 16) 128 t n, λ i u h. absurd (omega arith), omega arith)
+  pub streamed_none : (t : List ℤ) → length t ≡ 128 → Streamed t 0
+  streamed_none t n = (done_none f (pos 0) (λ i. i % 16) 128 t n, λ i u h. absurd (omega arith), omega arith)
 
   -- v is what f has at place i, and within B
   abbrev pub Makes : ℕ → ℤ → Type 0
@@ -61,9 +61,9 @@ module _ (f : ℕ → ℤ) (B : ℕ) where
   near m = subst (Within B) m.0 m.1
 
   -- a turn more: each of its eight values is right
-  pub streamed-more : (t : List ℤ) (l : ℕ) {a b c d e g h k : ℤ} → l < 16 → Makes l a → Makes (16 + l) b → Makes (32 + l) c → Makes (48 + l) d → Makes (64 + l) e → Makes (80 + l) g → Makes (96 + l) h → Makes (112 + l) k
+  pub streamed_more : (t : List ℤ) (l : ℕ) {a b c d e g h k : ℤ} → l < 16 → Makes l a → Makes (16 + l) b → Makes (32 + l) c → Makes (48 + l) d → Makes (64 + l) e → Makes (80 + l) g → Makes (96 + l) h → Makes (112 + l) k
       → Streamed t l → Streamed (stored t (eight l a b c d e g h k)) (l + 1)
-  streamed-more t l {a} {b} {c} {d} {e} {g} {h} {k} u m₀ m₁ m₂ m₃ m₄ m₅ m₆ m₇ s =
+  streamed_more t l {a} {b} {c} {d} {e} {g} {h} {k} u m₀ m₁ m₂ m₃ m₄ m₅ m₆ m₇ s =
       (done_more f (pos 0) (λ i. i % 16) 128 t l now s.0 (m₀.0, (m₁.0, (m₂.0, (m₃.0, (m₄.0, (m₅.0, (m₆.0, (m₇.0, tt)))))))) own, (λ i r q. by i r q (dec_lt (i % 16) l)), omega arith)
     where
       now : List (Put ℤ)
@@ -78,13 +78,13 @@ module _ (f : ℕ → ℤ) (B : ℕ) where
       by i r q (yes p) = s.1 i r p
       by i r q (no p) = at_each (λ j. Within B (f j)) l i r (omega arith) (near m₀) (near m₁) (near m₂) (near m₃) (near m₄) (near m₅) (near m₆) (near m₇)
 
-  pub streamed-all : (t : List ℤ) (l : ℕ) → 16 ≤ l → Streamed t l → (t ≡ table f 128) × ((i : ℕ) → i < 128 → Within B (elem t i))
-  streamed-all t l u s =
+  pub streamed_all : (t : List ℤ) (l : ℕ) → 16 ≤ l → Streamed t l → (t ≡ table f 128) × ((i : ℕ) → i < 128 → Within B (elem t i))
+  streamed_all t l u s =
       (done_all f (pos 0) (λ i. i % 16) 128 t l s.0 (λ i h. omega arith), λ i h. let p : i % 16 < l = omega arith in subst (Within B) (sym (s.0.1 i h p)) (s.1 i h p))
 
 -- the pair of f at places a and 16 + a, as a call gave it and as it is stored at place i
-pub pair-stored : (f : ℕ → ℤ) {B : ℕ} {r : ℤ} (i a : ℕ) → mag r < 2 ^ 15 → (r ≡ f a +ℤ f (16 + a)) × Within B r → a ≡ 32 * (i / 16) + i % 16 → Makes (pair_of f) B i (to_z w16 (of_z w16 r))
-pair-stored f {B} {r} i a ok e g =
+pub pair_stored : (f : ℕ → ℤ) {B : ℕ} {r : ℤ} (i a : ℕ) → mag r < 2 ^ 15 → (r ≡ f a +ℤ f (16 + a)) × Within B r → a ≡ 32 * (i / 16) + i % 16 → Makes (pair_of f) B i (to_z w16 (of_z w16 r))
+pair_stored f {B} {r} i a ok e g =
     let v = read_is w16 r ok in
     let h : 16 + a ≡ 32 * (i / 16) + (16 + i % 16) = omega arith in
     (v ∙ e.0 ∙ ap (λ (k : ℕ). f k +ℤ f (16 + a)) g ∙ ap (λ (k : ℕ). f (32 * (i / 16) + i % 16) +ℤ f k) h, subst (Within B) (sym v) e.1)

@@ -7,21 +7,21 @@ use lib.IntN.{ℤ, pos}
 use lib.ListN.{length, get_or, drop, replicate, length-replicate, get_or-replicate, get_or-append}
 use lib.Seq.{ext_get_or}
 use Rattle.memory.specs.Lists.{table, filled}
-use Rattle.memory.proofs.Filled.{length-table, getD-table, length-filled, filled-behind}
+use Rattle.memory.proofs.Filled.{length_table, get_or_table, length_filled, filled_behind}
 
 -- filled by f up to n, where f is 0 from there on: all of it is f's
-pub zeros-behind : (f : ℕ → ℤ) (n N : ℕ) → n ≤ N → ((i : ℕ) → n ≤ i → i < N → f i ≡ pos 0) → filled f (replicate N (pos 0)) n ≡ table f N
-zeros-behind f n N h e =
-    ext_get_or (pos 0) (filled f (replicate N (pos 0)) n) (table f N) (long ∙ sym (length-table f N)) (λ i p. at i (rw long at p) ∙ sym (getD-table f N i (pos 0) (rw long at p)))
+pub zeros_behind : (f : ℕ → ℤ) (n N : ℕ) → n ≤ N → ((i : ℕ) → n ≤ i → i < N → f i ≡ pos 0) → filled f (replicate N (pos 0)) n ≡ table f N
+zeros_behind f n N h e =
+    ext_get_or (pos 0) (filled f (replicate N (pos 0)) n) (table f N) (long ∙ sym (length_table f N)) (λ i p. at i (rw long at p) ∙ sym (get_or_table f N i (pos 0) (rw long at p)))
   where
     long : length (filled f (replicate N (pos 0)) n) ≡ N
-    long = length-filled f (replicate N (pos 0)) n (rw length-replicate h) ∙ length-replicate N (pos 0)
+    long = length_filled f (replicate N (pos 0)) n (rw length-replicate h) ∙ length-replicate N (pos 0)
 
     at : (i : ℕ) → i < N → get_or (filled f (replicate N (pos 0)) n) i (pos 0) ≡ f i
     at i p = by (dec_lt i n)
       where
         by : Dec (i < n) → get_or (filled f (replicate N (pos 0)) n) i (pos 0) ≡ f i
-        by (yes q) = get_or-append (table f n) (drop n (replicate N (pos 0))) (pos 0) i (rw length-table q) ∙ getD-table f n i (pos 0) q
+        by (yes q) = get_or-append (table f n) (drop n (replicate N (pos 0))) (pos 0) i (rw length_table q) ∙ get_or_table f n i (pos 0) q
         by (no q) =
             let b : n ≤ i = omega arith in
-            filled-behind f (replicate N (pos 0)) n i (pos 0) b ∙ get_or-replicate N i (pos 0) (pos 0) p ∙ sym (e i b p)
+            filled_behind f (replicate N (pos 0)) n i (pos 0) b ∙ get_or-replicate N i (pos 0) (pos 0) p ∙ sym (e i b p)

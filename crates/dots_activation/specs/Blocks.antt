@@ -2,77 +2,77 @@
 use Rattle.std.specs.Prelude.{ℕ, ◌+◌, ◌*◌, ◌<◌, min, Bool, true, false, cond, List, ltb, eqb, ℤ, pos, get_or, length, replicate, Float}
 use Rattle.std.specs.Float.{nan, binary32}
 use Rattle.std.specs.Float.Ieee.{mul}
-use Rattle.refusals.specs.Said.{Said, value, refused, no, checkSays}
+use Rattle.refusals.specs.Said.{Said, value, refused, no, check_says}
 use Rattle.refusals.specs.Refusals.{given, or_else}
 use Rattle.memory.specs.Lists.{table, every}
 use Rattle.numbers.specs.Steps.{nought}
-use Rattle.readings.specs.Readings.{scaleQ8, inverse, quantQ8}
+use Rattle.readings.specs.Readings.{scale_q8, inverse, quant_q8}
 use Rattle.dots_activation.specs.declared.block.Q8Block.{Q8Block}
 use Rattle.dots_activation.specs.declared.block.Quantized.{Quantized}
-use Rattle.dots_activation.specs.Whole.{elem, sumℤ, eqZ, Within}
+use Rattle.dots_activation.specs.Whole.{elem, sum_ℤ, eq_z, Within}
 
 -- each reading times the inverse, as a Q8 quant; quants past the readings are 0
-abbrev pub quantAt : List Float → Float → ℕ → ℤ
-quantAt xs inv i = cond (ltb i (length xs)) (quantQ8 (mul binary32 (get_or xs i nan) inv)) (pos 0)
+abbrev pub quant_at : List Float → Float → ℕ → ℤ
+quant_at xs inv i = cond (ltb i (length xs)) (quant_q8 (mul binary32 (get_or xs i nan) inv)) (pos 0)
 
 -- 256 signed quants
-abbrev pub quantsOf : List Float → List ℤ
-quantsOf xs = table (quantAt xs (inverse (scaleQ8 xs))) 256
+abbrev pub quants_of : List Float → List ℤ
+quants_of xs = table (quant_at xs (inverse (scale_q8 xs))) 256
 
 -- the sum of the 32 quants of sub-block j
-abbrev pub sumOf32 : List ℤ → ℕ → ℤ
-sumOf32 qs j = sumℤ (λ (l : ℕ). elem qs (32 * j + l)) 32
+abbrev pub sum_of_32 : List ℤ → ℕ → ℤ
+sum_of_32 qs j = sum_ℤ (λ (l : ℕ). elem qs (32 * j + l)) 32
 
 -- eight sums of 32
-abbrev pub sumsOf : List ℤ → List ℤ
-sumsOf qs = table (sumOf32 qs) 8
+abbrev pub sums_of : List ℤ → List ℤ
+sums_of qs = table (sum_of_32 qs) 8
 
 -- An activation block has one float scale, 256 signed quants, eight sums of 32 and the count of its readings: the
 -- block of these four ..
-abbrev pub blockIn : Float → List ℤ → List ℤ → ℕ → Q8Block
-blockIn d qs bsums count = record { d = d; qs = qs; bsums = bsums; count = count }
+abbrev pub block_in : Float → List ℤ → List ℤ → ℕ → Q8Block
+block_in d qs bsums count = record { d = d; qs = qs; bsums = bsums; count = count }
 
 -- .. of a scale, quants and a count ..
-abbrev pub blockWith : Float → List ℤ → ℕ → Q8Block
-blockWith d qs count = blockIn d qs (sumsOf qs) count
+abbrev pub block_with : Float → List ℤ → ℕ → Q8Block
+block_with d qs count = block_in d qs (sums_of qs) count
 
 -- .. and of at most 256 readings.
 unfoldable pub block_of : List Float → Q8Block
-block_of xs = blockWith (scaleQ8 xs) (quantsOf xs) (length xs)
+block_of xs = block_with (scale_q8 xs) (quants_of xs) (length xs)
 
 -- `quantize_block_q8`: 4 for more than 256 readings; and otherwise the block
-unfoldable pub blockSays : List Float → Said Q8Block
-blockSays xs = given (no 4) (ltb 256 (length xs)) (value (block_of xs))
+unfoldable pub block_says : List Float → Said Q8Block
+block_says xs = given (no 4) (ltb 256 (length xs)) (value (block_of xs))
 
 -- what its answer says
-abbrev pub quantizedSays : Quantized → Said Q8Block
-quantizedSays r = or_else (checkSays r.checked) (value r.block)
+abbrev pub quantized_says : Quantized → Said Q8Block
+quantized_says r = or_else (check_says r.checked) (value r.block)
 
 -- the block that is answered: beside a refusal it has nothing but zeros
-abbrev pub blockSaid : Said Q8Block → Q8Block
-blockSaid (value b) = b
-blockSaid (refused why) = blockIn nought (replicate 256 (pos 0)) (replicate 8 (pos 0)) 0
+abbrev pub block_said : Said Q8Block → Q8Block
+block_said (value b) = b
+block_said (refused why) = block_in nought (replicate 256 (pos 0)) (replicate 8 (pos 0)) 0
 
 -- place i is below n, or its quant is 0
-abbrev pub pastIsZero : List ℤ → ℕ → ℕ → Bool
-pastIsZero qs n i = cond (ltb i n) true (eqZ (elem qs i) (pos 0))
+abbrev pub past_is_zero : List ℤ → ℕ → ℕ → Bool
+past_is_zero qs n i = cond (ltb i n) true (eq_z (elem qs i) (pos 0))
 
 -- every quant from n on is 0
-abbrev pub zerosPast : List ℤ → ℕ → Bool
-zerosPast qs n = every (pastIsZero qs n) 256
+abbrev pub zeros_past : List ℤ → ℕ → Bool
+zeros_past qs n = every (past_is_zero qs n) 256
 
 -- A block of `count` readings serves n places, n above 256 taken as 256, where n is that count and every quant past it
 -- is 0. A count above 256 serves none.
-unfoldable pub countServes : List ℤ → ℕ → ℕ → Bool
-countServes qs count n = cond (eqb (min n 256) count) (zerosPast qs count) false
+unfoldable pub count_serves : List ℤ → ℕ → ℕ → Bool
+count_serves qs count n = cond (eqb (min n 256) count) (zeros_past qs count) false
 
 -- sum j is the sum of its 32 quants
-abbrev pub rightAt : List ℤ → List ℤ → ℕ → Bool
-rightAt qs sums j = eqZ (sumOf32 qs j) (elem sums j)
+abbrev pub right_at : List ℤ → List ℤ → ℕ → Bool
+right_at qs sums j = eq_z (sum_of_32 qs j) (elem sums j)
 
 -- a block's sums are the sums of its 32s
-unfoldable pub sumsRight : List ℤ → List ℤ → Bool
-sumsRight qs sums = every (rightAt qs sums) 8
+unfoldable pub sums_right : List ℤ → List ℤ → Bool
+sums_right qs sums = every (right_at qs sums) 8
 
 -- each of eight sums is at most 4,096 in size, as a sum of 32 signed bytes is
 pub record SmallSums (sums : List ℤ) : Type 0 where

@@ -3,9 +3,9 @@
 ghost use Rattle.std.specs.Prelude.{◌≡◌, ◌+◌, ◌≤◌, ◌<◌, true, ◌+ℤ◌, length};
 ghost use Rattle.memory.specs.Lists.{table};
 ghost use Rattle.dots_activation.specs.Whole.{elem, Within};
-ghost use Rattle.dots_activation.specs.Inner.{pair_of, PairsWithin, sumOfPairs};
-ghost use Rattle.dots_activation.specs.Blocks.{quantAt, sumsOf, zerosPast, countServes, sumsRight, SmallSums};
-ghost use Rattle.dots_activation.specs.Blocks.{blockWith, block_of, blockSays, quantizedSays, blockSaid};
+ghost use Rattle.dots_activation.specs.Inner.{pair_of, PairsWithin, sum_of_pairs};
+ghost use Rattle.dots_activation.specs.Blocks.{quant_at, sums_of, zeros_past, count_serves, sums_right, SmallSums};
+ghost use Rattle.dots_activation.specs.Blocks.{block_with, block_of, block_says, quantized_says, block_said};
 
 use refusals::Check;
 
@@ -57,7 +57,7 @@ fn pairs(qs: &[i8; 256]) -> [i16; 128]
 // The sum of the 16 pairs of sub-block j, at most 4,096 in size.
 fn sum_of_32(pairs: &[i16; 128], j: usize) -> i16
     requires { PairsWithin 256 pairs.now × (j < 8) }
-    ensures { (result ≡ sumOfPairs pairs.now j) × Within 4096 result }
+    ensures { (result ≡ sum_of_pairs pairs.now j) × Within 4096 result }
 {
     let low = 16 * j;
     let high = low + 8;
@@ -69,7 +69,7 @@ fn sum_of_32(pairs: &[i16; 128], j: usize) -> i16
 }
 
 fn sums_of(qs: &[i8; 256]) -> [i32; 8]
-    ensures { result ≡ sumsOf qs.now }
+    ensures { result ≡ sums_of qs.now }
 {
     let t = pairs(qs);
     let mut sums = [0i32; 8];
@@ -81,7 +81,7 @@ fn sums_of(qs: &[i8; 256]) -> [i32; 8]
 
 // Whether the eight sums are the sums of the quants' 32s.
 pub fn sums_right(qs: &[i8; 256], bsums: &[i32; 8]) -> bool
-    ensures { (result ≡ sumsRight qs.now bsums.now)
+    ensures { (result ≡ sums_right qs.now bsums.now)
         × (result ≡ true → SmallSums bsums.now) }
 {
     let t = pairs(qs);
@@ -96,7 +96,7 @@ pub fn sums_right(qs: &[i8; 256], bsums: &[i32; 8]) -> bool
 // Whether every quant from n on is 0. All are looked at, a vector at a time.
 fn zeros_past(qs: &[i8; 256], n: usize) -> bool
     requires { n ≤ 256 }
-    ensures { result ≡ zerosPast qs.now n }
+    ensures { result ≡ zeros_past qs.now n }
 {
     let mut zeros = true;
     for i in n..256usize {
@@ -109,7 +109,7 @@ fn zeros_past(qs: &[i8; 256], n: usize) -> bool
 
 // Whether a block of `count` readings serves n places, n above 256 taken as 256: of a full block no quant is looked at.
 pub fn count_serves(qs: &[i8; 256], count: usize, n: usize) -> bool
-    ensures { result ≡ countServes qs.now count n }
+    ensures { result ≡ count_serves qs.now count n }
 {
     let places = if n > 256 { 256 } else { n };
     if places != count {
@@ -121,7 +121,7 @@ pub fn count_serves(qs: &[i8; 256], count: usize, n: usize) -> bool
 // The quants of the readings, and 0 past them.
 fn quants_of(x: &[f32], inverse: f32) -> [i8; 256]
     requires { length x.now ≤ 256 }
-    ensures { result ≡ table (quantAt x.now inverse) 256 }
+    ensures { result ≡ table (quant_at x.now inverse) 256 }
 {
     let mut qs = [0i8; 256];
     for i in 0..x.len() {
@@ -132,7 +132,7 @@ fn quants_of(x: &[f32], inverse: f32) -> [i8; 256]
 
 // The block of a scale, quants and a count: every block but that of a refusal is made here.
 fn block_with(d: f32, qs: [i8; 256], count: usize) -> Q8Block
-    ensures { result ≡ blockWith d qs count }
+    ensures { result ≡ block_with d qs count }
 {
     let bsums = sums_of(&qs);
     Q8Block {
@@ -154,8 +154,8 @@ pub fn quantized_block(x: &[f32]) -> Q8Block
 
 // The block of the readings. Refuses 4 for more than 256 of them.
 pub fn quantize_block_q8(x: &[f32]) -> Quantized
-    ensures { (quantizedSays result ≡ blockSays x.now)
-        × (result.block ≡ blockSaid (blockSays x.now)) }
+    ensures { (quantized_says result ≡ block_says x.now)
+        × (result.block ≡ block_said (block_says x.now)) }
 {
     if x.len() > 256 {
         let block = Q8Block {

@@ -5,14 +5,14 @@ use Rattle.dots_fused.proofs.dot.canonical_dot_q4k_fused.Reads as q4k
 use Rattle.dots_fused.proofs.dot.canonical_dot_q5k_fused.Reads as q5k
 use Rattle.dots_fused.proofs.dot.q6k_fused_f32_dot.Reads as q6k
 
-pub dot-once : OneResult dot.Post
-dot-once κs a x y s t h k = one_answer x y (same h k)
+pub dot_once : OneResult dot.Post
+dot_once κs a x y s t h k = one_answer x y (same h k)
 
-pub q4k-once : OneResult q4k.Post
-q4k-once κs a x y s t h k = one_answer x y (same h k)
+pub q4k_once : OneResult q4k.Post
+q4k_once κs a x y s t h k = one_answer x y (same h k)
 
-pub q5k-once : OneResult q5k.Post
-q5k-once κs a x y s t h k = one_answer x y (same h k)
+pub q5k_once : OneResult q5k.Post
+q5k_once κs a x y s t h k = one_answer x y (same h k)
 
-pub q6k-once : OneResult q6k.Post
-q6k-once κs a x y s t h k = one_answer x y (same h k)
+pub q6k_once : OneResult q6k.Post
+q6k_once κs a x y s t h k = one_answer x y (same h k)

@@ -1,11 +1,11 @@
 // The fused dot of a row: the sums of its chunks meet in the tree.
 ghost use Rattle.std.specs.Prelude.{◌≡◌, ◌≤◌, length};
-ghost use Rattle.refusals.specs.Said.{saidBy};
-ghost use Rattle.refusals.specs.Sizes.{mostIn};
+ghost use Rattle.refusals.specs.Said.{said_by};
+ghost use Rattle.refusals.specs.Sizes.{most_in};
 ghost use Rattle.layouts.specs.Weights.{values_of};
-ghost use Rattle.sums.specs.Rows.{rowSum};
+ghost use Rattle.sums.specs.Rows.{row_sum};
 ghost use Rattle.dots_fused_block.specs.Terms.{terms};
-ghost use Rattle.dots_fused.specs.Says.{fusedSays};
+ghost use Rattle.dots_fused.specs.Says.{fused_says};
 
 use dots_fused_chunk::chunk_dot;
 use layouts::{Format, FormatK};
@@ -13,8 +13,8 @@ use refusals::Answer;
 
 // The dot of the first n places.
 fn row_dot(format: FormatK, x: &[f32], w: &[u8], n: usize) -> f32
-    requires { (n ≤ mostIn) × (n ≤ length x.now) × (n ≤ values_of (Format.OfK format) (length w.now)) }
-    ensures { result ≡ rowSum (terms format x.now w.now) n }
+    requires { (n ≤ most_in) × (n ≤ length x.now) × (n ≤ values_of (Format.OfK format) (length w.now)) }
+    ensures { result ≡ row_sum (terms format x.now w.now) n }
 {
     let chunks = sums::chunks_in(n);
     let mut sums = [0.0f32; sums::MOST_CHUNKS];
@@ -29,7 +29,7 @@ fn row_dot(format: FormatK, x: &[f32], w: &[u8], n: usize) -> f32
 // The dot of the first n readings and the first n weights that w packs. Refuses 6 and 1, answers n = 0 with +0.0,
 // refuses 3 and 4, in this order.
 pub fn fused_dot(format: FormatK, x: &[f32], w: &[u8], n: usize) -> Answer
-    ensures { saidBy result ≡ fusedSays format x.now w.now n }
+    ensures { said_by result ≡ fused_says format x.now w.now n }
 {
     let size = layouts::block_bytes(Format::OfK(format));
     let over = w.len() % size;
@@ -54,21 +54,21 @@ pub fn fused_dot(format: FormatK, x: &[f32], w: &[u8], n: usize) -> Answer
 
 // The dot of a row of Q4_K. Where the Rust adds up a short row and says Ok, this refuses 3.
 pub fn canonical_dot_q4k_fused(x: &[f32], w: &[u8], n: usize) -> Answer
-    ensures { saidBy result ≡ fusedSays FormatK.Q4K x.now w.now n }
+    ensures { said_by result ≡ fused_says FormatK.Q4K x.now w.now n }
 {
     fused_dot(FormatK::Q4K, x, w, n)
 }
 
 // The dot of a row of Q5_K.
 pub fn canonical_dot_q5k_fused(x: &[f32], w: &[u8], n: usize) -> Answer
-    ensures { saidBy result ≡ fusedSays FormatK.Q5K x.now w.now n }
+    ensures { said_by result ≡ fused_says FormatK.Q5K x.now w.now n }
 {
     fused_dot(FormatK::Q5K, x, w, n)
 }
 
 // The dot of a row of Q6_K.
 pub fn q6k_fused_f32_dot(x: &[f32], w: &[u8], n: usize) -> Answer
-    ensures { saidBy result ≡ fusedSays FormatK.Q6K x.now w.now n }
+    ensures { said_by result ≡ fused_says FormatK.Q6K x.now w.now n }
 {
     fused_dot(FormatK::Q6K, x, w, n)
 }

@@ -16,7 +16,7 @@ use mir.Syntax.{w8, w32}
 use mir.Val.{SFits, to_z, of_z}
 use mir.ValLaws.{to_z-of_z}
 use Rattle.numbers.proofs.Signed.{read_is}
-use Rattle.readings.proofs.Values.{Fraction, of-value, power, sub_is}
+use Rattle.readings.proofs.Values.{Fraction, of_value, power, sub_is}
 
 -- ---- the unsigned byte
 
@@ -25,16 +25,16 @@ abbrev pub above : ℤ → ℕ
 above (pos n) = n + 128
 above (negsuc k) = 127 - k
 
-pub above-is : (z : ℤ) → mag z < 128 → z +ℤ pos 128 ≡ pos (above z)
-above-is (pos n) h = refl
-above-is (negsuc k) h =
+pub above_is : (z : ℤ) → mag z < 128 → z +ℤ pos 128 ≡ pos (above z)
+above_is (pos n) h = refl
+above_is (negsuc k) h =
     let l : suc k ≤ 128 = omega arith in
     let e : 128 - suc k ≡ 127 - k = omega arith in
     rw (le-ltb 128 (suc k) l, e)
 
-pub above-under : (z : ℤ) → mag z < 128 → above z < 256
-above-under (pos n) h = omega arith
-above-under (negsuc k) h = omega arith
+pub above_under : (z : ℤ) → mag z < 128 → above z < 256
+above_under (pos n) h = omega arith
+above_under (negsuc k) h = omega arith
 
 -- ---- as the machine has it
 
@@ -46,15 +46,15 @@ module _ (z : ℤ) (h : mag z < 128) where
   wide_is = to_z-of_z w32 _ wide_fits ∙ read_is w8 z h
 
   pub sum_fits : SFits w32 (to_z w32 (of_z w32 (to_z w8 (of_z w8 z))) +ℤ pos 128)
-  sum_fits = rw (wide_is, above-is z h) (record { sfits = lt_of_lt_of_le (above-under z h) (lit≤ tt) })
+  sum_fits = rw (wide_is, above_is z h) (record { sfits = lt_of_lt_of_le (above_under z h) (lit≤ tt) })
 
   pub sum_is : to_z w32 (of_z w32 (to_z w32 (of_z w32 (to_z w8 (of_z w8 z))) +ℤ pos 128)) ≡ pos (above z)
-  sum_is = to_z-of_z w32 _ sum_fits ∙ ap (λ (y : ℤ). y +ℤ pos 128) wide_is ∙ above-is z h
+  sum_is = to_z-of_z w32 _ sum_fits ∙ ap (λ (y : ℤ). y +ℤ pos 128) wide_is ∙ above_is z h
 
 -- ---- the float
 
 whole : (n : ℕ) → n < 256 → Fraction (round binary32 false n 1) n 1
-whole n h = of-value (round binary32 false n 1) n 1 (lit< tt) (round_whole binary32 false n (most h))
+whole n h = of_value (round binary32 false n 1) n 1 (lit< tt) (round_whole binary32 false n (most h))
   where
     most : {k : ℕ} → k < 256 → k ≤ 2 ^ 24
     most l = omega arith

@@ -3,8 +3,8 @@
 ghost use Rattle.std.specs.Prelude.{◌≡◌, pos, length, get_or};
 ghost use Rattle.std.specs.Float.{binary32};
 ghost use Rattle.std.specs.Float.Ieee.{of_int};
-ghost use Rattle.sums_lanes.specs.Lanes.{lanesFrom};
-ghost use Rattle.dots_fused_block.specs.Inner.{blockTerms, runTerms};
+ghost use Rattle.sums_lanes.specs.Lanes.{lanes_from};
+ghost use Rattle.dots_fused_block.specs.Inner.{block_terms, run_terms};
 
 use layouts::FormatK;
 
@@ -19,7 +19,7 @@ fn to_f32(q: i8) -> f32
 // Eight terms, one for each lane.
 fn eight_terms(l: [f32; 8], x: &[f32], q: &[i8], d: f32) -> [f32; 8]
     requires { (length x.now ≡ 8) × (length q.now ≡ 8) }
-    ensures { result ≡ lanesFrom l (runTerms x.now q.now d) 8 }
+    ensures { result ≡ lanes_from l (run_terms x.now q.now d) 8 }
 {
     let mut out = l;
     for i in 0..8usize {
@@ -31,7 +31,7 @@ fn eight_terms(l: [f32; 8], x: &[f32], q: &[i8], d: f32) -> [f32; 8]
 // The lanes `l` after the 16 terms of a run, eight at a time.
 fn add_run(l: [f32; 8], x: &[f32], q: &[i8], d: f32) -> [f32; 8]
     requires { (length x.now ≡ 16) × (length q.now ≡ 16) }
-    ensures { result ≡ lanesFrom l (runTerms x.now q.now d) 16 }
+    ensures { result ≡ lanes_from l (run_terms x.now q.now d) 16 }
 {
     let half = eight_terms(l, &x[0..8], &q[0..8], d);
     eight_terms(half, &x[8..16], &q[8..16], d)
@@ -40,8 +40,8 @@ fn add_run(l: [f32; 8], x: &[f32], q: &[i8], d: f32) -> [f32; 8]
 // The lanes `l` after the 256 terms of a block whose whole numbers are q, a run a turn.
 pub(crate) fn add_runs(l: [f32; 8], x: &[f32], block: &[u8], q: &[i8]) -> [f32; 8]
     requires { (length x.now ≡ 256) × (length block.now ≡ 210) × (length q.now ≡ 256) }
-    ensures { result ≡ lanesFrom l
-        (blockTerms FormatK.Q6K x.now block.now (λ i. get_or q.now i (pos 0))) 256 }
+    ensures { result ≡ lanes_from l
+        (block_terms FormatK.Q6K x.now block.now (λ i. get_or q.now i (pos 0))) 256 }
 {
     let scales = k_scales::scales_q6k(block);
     let mut out = l;

@@ -2,8 +2,8 @@
 // length that it is handed, and so is short where it is compiled by itself: the compiler puts it into each format's
 // branch, and there, where the lengths are known, writes its turns out, each step on vectors.
 ghost use Rattle.std.specs.Prelude.{◌≡◌, ◌≤◌, pos, length, get_or};
-ghost use Rattle.sums_lanes.specs.Lanes.{lanesFrom};
-ghost use Rattle.dots_fused_block.specs.Inner.{blockTerms, subBlockTerms};
+ghost use Rattle.sums_lanes.specs.Lanes.{lanes_from};
+ghost use Rattle.dots_fused_block.specs.Inner.{block_terms, sub_block_terms};
 
 use layouts::FormatK;
 
@@ -11,7 +11,7 @@ use layouts::FormatK;
 fn eight_terms(l: &mut [f32], x: &[f32], q: &[u8], d: f32, m: f32)
     requires { (length l.old ≡ 8) × (length x.now ≡ 8) × (length q.now ≡ 8) }
     ensures { l.new
-        ≡ lanesFrom l.old (subBlockTerms x.now q.now d m) 8 }
+        ≡ lanes_from l.old (sub_block_terms x.now q.now d m) 8 }
 {
     for i in 0..l.len() {
         l[i] = l[i] + x[i] * (d * q[i] as f32 - m);
@@ -22,7 +22,7 @@ fn eight_terms(l: &mut [f32], x: &[f32], q: &[u8], d: f32, m: f32)
 fn add_sub_block(l: &mut [f32], x: &[f32], q: &[u8], d: f32, m: f32)
     requires { (length l.old ≡ 8) × (length x.now ≡ 32) × (length q.now ≡ 32) }
     ensures { l.new
-        ≡ lanesFrom l.old (subBlockTerms x.now q.now d m) 32 }
+        ≡ lanes_from l.old (sub_block_terms x.now q.now d m) 32 }
 {
     for e in 0..q.len() / 8 {
         let at = 8 * e;
@@ -34,8 +34,8 @@ fn add_sub_block(l: &mut [f32], x: &[f32], q: &[u8], d: f32, m: f32)
 // The lanes `l` after the 256 terms of a block whose whole numbers are q, a sub-block a turn.
 pub(crate) fn add_sub_blocks(l: &mut [f32], x: &[f32], block: &[u8], q: &[u8])
     requires { (length l.old ≡ 8) × (length x.now ≡ 256) × (16 ≤ length block.now) × (length q.now ≡ 256) }
-    ensures { l.new ≡ lanesFrom l.old
-        (blockTerms FormatK.Q4K x.now block.now (λ i. pos (get_or q.now i 0))) 256 }
+    ensures { l.new ≡ lanes_from l.old
+        (block_terms FormatK.Q4K x.now block.now (λ i. pos (get_or q.now i 0))) 256 }
 {
     let both = k_scales::scales_and_minimums(block);
     let size = q.len() / 8;

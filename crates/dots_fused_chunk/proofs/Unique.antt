@@ -2,5 +2,5 @@
 use Rattle.refusals.proofs.Once.{OneResult, same}
 use Rattle.dots_fused_chunk.proofs.chunk.chunk_dot.Reads as chunk
 
-pub chunk-once : OneResult chunk.Post
-chunk-once κs a x y s t h k = same h k
+pub chunk_once : OneResult chunk.Post
+chunk_once κs a x y s t h k = same h k

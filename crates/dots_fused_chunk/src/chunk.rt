@@ -1,11 +1,11 @@
 // One chunk of a row: its blocks' terms go to eight lanes, which meet in the tree. The loop over blocks is one for all
 // formats.
 ghost use Rattle.std.specs.Prelude.{◌≡◌, ◌*◌, ◌/◌, ◌≤◌, ◌<◌, length};
-ghost use Rattle.refusals.specs.Sizes.{mostIn};
-ghost use Rattle.layouts.specs.Formats.{bytesK};
+ghost use Rattle.refusals.specs.Sizes.{most_in};
+ghost use Rattle.layouts.specs.Formats.{bytes_k};
 ghost use Rattle.layouts.specs.Weights.{values_of};
 ghost use Rattle.sums_lanes.specs.Lanes.{lanes};
-ghost use Rattle.sums.specs.Rows.{chunks_in, chunkAt};
+ghost use Rattle.sums.specs.Rows.{chunks_in, chunk_at};
 ghost use Rattle.dots_fused_block.specs.Terms.{terms};
 
 use dots_fused_block::{add_block, add_short};
@@ -54,9 +54,9 @@ fn all_blocks(format: FormatK, x: &[f32], w: &[u8]) -> [f32; 8]
 // The sum of chunk c of a row of n places: the products of the readings x and the weights that w packs, over the places
 // of this chunk alone. A chunk starts with a block.
 pub fn chunk_dot(format: FormatK, x: &[f32], w: &[u8], n: usize, c: usize) -> f32
-    requires { (n ≤ mostIn) × (n ≤ length x.now) × (n ≤ values_of (Format.OfK format) (length w.now))
+    requires { (n ≤ most_in) × (n ≤ length x.now) × (n ≤ values_of (Format.OfK format) (length w.now))
         × (c < chunks_in n) }
-    ensures { result ≡ chunkAt (terms format x.now w.now) n c }
+    ensures { result ≡ chunk_at (terms format x.now w.now) n c }
 {
     let s = sums::CHUNK * c;
     let e = sums::chunk_end(n, c);

@@ -1,17 +1,17 @@
 // The dot of one packed block and one activation block.
 ghost use Rattle.std.specs.Prelude.{◌≡◌, ◌+◌, ◌≤◌, ◌<◌, true, length};
-ghost use Rattle.refusals.specs.Said.{saidBy};
+ghost use Rattle.refusals.specs.Said.{said_by};
 ghost use Rattle.halves.specs.Binary16.{widened};
 ghost use Rattle.numbers.specs.Fields.{le16};
-ghost use Rattle.layouts.specs.Formats.{bytesK, hasMinimums};
-ghost use Rattle.layouts.specs.K.{dOf};
-ghost use Rattle.dots_activation.specs.Whole.{elem, sumℤ};
-ghost use Rattle.dots_activation.specs.Blocks.{SmallSums, blockIn};
-ghost use Rattle.dots_whole.specs.Sums.{weighedAt};
-ghost use Rattle.dots_whole.specs.Inner.{pairsWeighed};
+ghost use Rattle.layouts.specs.Formats.{bytes_k, has_minimums};
+ghost use Rattle.layouts.specs.K.{d_of};
+ghost use Rattle.dots_activation.specs.Whole.{elem, sum_ℤ};
+ghost use Rattle.dots_activation.specs.Blocks.{SmallSums, block_in};
+ghost use Rattle.dots_whole.specs.Sums.{weighed_at};
+ghost use Rattle.dots_whole.specs.Inner.{pairs_weighed};
 ghost use Rattle.dots_activation.specs.Inner.{PairsWithin};
-ghost use Rattle.dots_integer.specs.Dots.{scaledSum, scaledDot, blockDot};
-ghost use Rattle.dots_integer.specs.Dots.{sumsServe, blockDotSays};
+ghost use Rattle.dots_integer.specs.Dots.{scaled_sum, scaled_dot, block_dot};
+ghost use Rattle.dots_integer.specs.Dots.{sums_serve, block_dot_says};
 
 use dots_activation::{Q8Block, count_serves, sums_right};
 use dots_whole::{minimum_sum, products, sum_by_runs, sum_of_products};
@@ -30,8 +30,8 @@ fn half_at(w: &[u8], i: usize) -> f32
 // the branches of the widening would part the sums' loads from their arithmetic.
 fn dot_of_products(w: &[u8], p: &[i16; 128], d: f32, sums: &[i32]) -> f32
     requires { (16 ≤ length w.now) × PairsWithin 7936 p.now × (length sums.now ≡ 8) × SmallSums sums.now }
-    ensures { result ≡ scaledDot FormatK.Q4K w.now d sums.now
-        (pairsWeighed w.now p.now) }
+    ensures { result ≡ scaled_dot FormatK.Q4K w.now d sums.now
+        (pairs_weighed w.now p.now) }
 {
     let scale = half_at(w, 0) * d;
     let minimum = half_at(w, 2) * d;
@@ -43,8 +43,8 @@ fn dot_of_products(w: &[u8], p: &[i16; 128], d: f32, sums: &[i32]) -> f32
 // The dot of a Q6_K block, whose quants are q. It looks at no sums.
 fn dot_of_runs(w: &[u8], q: &[i8; 256], d: f32, qs: &[i8]) -> f32
     requires { (length w.now ≡ 210) × (length qs.now ≡ 256) }
-    ensures { result ≡ scaledSum (dOf FormatK.Q6K w.now) d
-        (sumℤ (weighedAt FormatK.Q6K w.now (elem q.now) qs.now) 256) }
+    ensures { result ≡ scaled_sum (d_of FormatK.Q6K w.now) d
+        (sum_ℤ (weighed_at FormatK.Q6K w.now (elem q.now) qs.now) 256) }
 {
     let scale = half_at(w, 208) * d;
     scale * numbers::whole_to_f32(sum_by_runs(w, q, qs))
@@ -54,9 +54,9 @@ fn dot_of_runs(w: &[u8], q: &[i8; 256], d: f32, qs: &[i8]) -> f32
 // made the block and so know its sums. Each format with minimums has its products made in its own branch, where the
 // compiler knows how many bits a quant has; what is done with them is one call.
 pub fn block_dot(format: FormatK, w: &[u8], d: f32, qs: &[i8], sums: &[i32]) -> f32
-    requires { (length w.now ≡ bytesK format) × (length qs.now ≡ 256) × (length sums.now ≡ 8)
-        × (hasMinimums format ≡ true → SmallSums sums.now) }
-    ensures { result ≡ blockDot format w.now d qs.now sums.now 256 }
+    requires { (length w.now ≡ bytes_k format) × (length qs.now ≡ 256) × (length sums.now ≡ 8)
+        × (has_minimums format ≡ true → SmallSums sums.now) }
+    ensures { result ≡ block_dot format w.now d qs.now sums.now 256 }
 {
     match format {
         FormatK::Q4K | FormatK::Q5K => {
@@ -76,8 +76,8 @@ pub fn block_dot(format: FormatK, w: &[u8], d: f32, qs: &[i8], sums: &[i32]) -> 
 
 // Whether the sums serve the format: one without minimums looks at no sums.
 fn sums_serve(format: FormatK, qs: &[i8; 256], sums: &[i32; 8]) -> bool
-    ensures { (result ≡ sumsServe format qs.now sums.now)
-        × (result ≡ true → hasMinimums format ≡ true → SmallSums sums.now) }
+    ensures { (result ≡ sums_serve format qs.now sums.now)
+        × (result ≡ true → has_minimums format ≡ true → SmallSums sums.now) }
 {
     match format {
         FormatK::Q4K | FormatK::Q5K => sums_right(qs, sums),
@@ -97,8 +97,8 @@ pub fn first_dot(
     count: usize,
     n: usize,
 ) -> Answer
-    ensures { saidBy result
-        ≡ blockDotSays format w.now (blockIn d qs.now sums.now count) n }
+    ensures { said_by result
+        ≡ block_dot_says format w.now (block_in d qs.now sums.now count) n }
 {
     let size = layouts::block_bytes(Format::OfK(format));
     if w.len() < size {
@@ -115,7 +115,7 @@ pub fn first_dot(
 
 // The dot of a Q4_K block and an activation block. Refuses 3, 15 and 7, in this order.
 pub fn dot_q4k_q8_block(w: &[u8], xq: Q8Block, n: usize) -> Answer
-    ensures { saidBy result ≡ blockDotSays FormatK.Q4K w.now xq n }
+    ensures { said_by result ≡ block_dot_says FormatK.Q4K w.now xq n }
 {
     let sums = xq.bsums;
     first_dot(FormatK::Q4K, w, xq.d, &xq.qs, &sums, xq.count, n)
@@ -123,7 +123,7 @@ pub fn dot_q4k_q8_block(w: &[u8], xq: Q8Block, n: usize) -> Answer
 
 // The dot of a Q5_K block and an activation block. Refuses 3, 15 and 7, in this order.
 pub fn dot_q5k_q8_block(w: &[u8], xq: Q8Block, n: usize) -> Answer
-    ensures { saidBy result ≡ blockDotSays FormatK.Q5K w.now xq n }
+    ensures { said_by result ≡ block_dot_says FormatK.Q5K w.now xq n }
 {
     let sums = xq.bsums;
     first_dot(FormatK::Q5K, w, xq.d, &xq.qs, &sums, xq.count, n)
@@ -131,7 +131,7 @@ pub fn dot_q5k_q8_block(w: &[u8], xq: Q8Block, n: usize) -> Answer
 
 // The dot of a Q6_K block and an activation block. Refuses 3 and 15, in this order.
 pub fn dot_q6k_q8_block(w: &[u8], xq: Q8Block, n: usize) -> Answer
-    ensures { saidBy result ≡ blockDotSays FormatK.Q6K w.now xq n }
+    ensures { said_by result ≡ block_dot_says FormatK.Q6K w.now xq n }
 {
     let sums = xq.bsums;
     first_dot(FormatK::Q6K, w, xq.d, &xq.qs, &sums, xq.count, n)

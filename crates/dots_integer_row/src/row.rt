@@ -1,10 +1,10 @@
 // The dot of a row of packed blocks and readings, in whole numbers block by block.
 ghost use Rattle.std.specs.Prelude.{◌≡◌, ◌+◌, ◌*◌, ◌≤◌, ◌<◌, length};
-ghost use Rattle.refusals.specs.Said.{saidBy};
-ghost use Rattle.refusals.specs.Sizes.{mostIn};
-ghost use Rattle.memory.specs.Lists.{stretchLength, stretchesIn};
-ghost use Rattle.layouts.specs.Formats.{bytesK};
-ghost use Rattle.dots_integer_row.specs.Rows.{integerRow, integerSays};
+ghost use Rattle.refusals.specs.Said.{said_by};
+ghost use Rattle.refusals.specs.Sizes.{most_in};
+ghost use Rattle.memory.specs.Lists.{stretch_length, stretches_in};
+ghost use Rattle.layouts.specs.Formats.{bytes_k};
+ghost use Rattle.dots_integer_row.specs.Rows.{integer_row, integer_says};
 
 use dots_activation::quantized_block;
 use dots_integer::block_dot;
@@ -16,8 +16,8 @@ const MOST_BLOCKS: usize = 512;
 
 // Where the readings of block b of n places end; they start at 256 b.
 fn block_end(n: usize, b: usize) -> usize
-    requires { (n ≤ mostIn) × (b < stretchesIn 256 n) }
-    ensures { (result ≡ 256 * b + stretchLength 256 n b) × (256 * b < result) × (result ≤ n) }
+    requires { (n ≤ most_in) × (b < stretches_in 256 n) }
+    ensures { (result ≡ 256 * b + stretch_length 256 n b) × (256 * b < result) × (result ≤ n) }
 {
     let s = 256 * b;
     if n - s > 256 { s + 256 } else { n }
@@ -27,8 +27,8 @@ fn block_end(n: usize, b: usize) -> usize
 // quants are 0, and add nothing. Quants are taken out of their block as its sums are: where a part of it is lent, the
 // whole block is copied first.
 fn integer_row(format: FormatK, x: &[f32], w: &[u8], n: usize) -> f32
-    requires { (n ≤ mostIn) × (n ≤ length x.now) × (stretchesIn 256 n * bytesK format ≤ length w.now) }
-    ensures { result ≡ integerRow format x.now w.now n }
+    requires { (n ≤ most_in) × (n ≤ length x.now) × (stretches_in 256 n * bytes_k format ≤ length w.now) }
+    ensures { result ≡ integer_row format x.now w.now n }
 {
     let size = layouts::block_bytes(Format::OfK(format));
     let blocks = blocks_in(n);
@@ -51,7 +51,7 @@ fn integer_row(format: FormatK, x: &[f32], w: &[u8], n: usize) -> f32
 // The dot of the first n readings, quantised block by block, and the packed weights. Refuses 6 and 1, answers n = 0
 // with +0.0, refuses 3 and 4, in this order.
 fn integer_dot(format: FormatK, x: &[f32], w: &[u8], n: usize) -> Answer
-    ensures { saidBy result ≡ integerSays format x.now w.now n }
+    ensures { said_by result ≡ integer_says format x.now w.now n }
 {
     let size = layouts::block_bytes(Format::OfK(format));
     if n > refusals::MOST_IN {
@@ -75,14 +75,14 @@ fn integer_dot(format: FormatK, x: &[f32], w: &[u8], n: usize) -> Answer
 
 // The dot of a row of Q4_K.
 pub fn integer_dot_q4k(x: &[f32], w: &[u8], n: usize) -> Answer
-    ensures { saidBy result ≡ integerSays FormatK.Q4K x.now w.now n }
+    ensures { said_by result ≡ integer_says FormatK.Q4K x.now w.now n }
 {
     integer_dot(FormatK::Q4K, x, w, n)
 }
 
 // The dot of a row of Q5_K.
 pub fn integer_dot_q5k(x: &[f32], w: &[u8], n: usize) -> Answer
-    ensures { saidBy result ≡ integerSays FormatK.Q5K x.now w.now n }
+    ensures { said_by result ≡ integer_says FormatK.Q5K x.now w.now n }
 {
     integer_dot(FormatK::Q5K, x, w, n)
 }

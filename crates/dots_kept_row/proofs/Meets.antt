@@ -7,7 +7,7 @@ use native.Mathlib.Numerals.{add-one}
 use lib.ListN.{length, get_or}
 use lib.Ieee.{Float, nan, binary32, add}
 use Rattle.memory.specs.Lists.{table}
-use Rattle.memory.proofs.Filled.{length-table, getD-table, table-ext, table_of}
+use Rattle.memory.proofs.Filled.{length_table, get_or_table, table_ext, table_of}
 use Rattle.numbers.specs.Steps.{nought}
 use Rattle.sums_lanes.specs.Lanes.{values}
 use Rattle.sums_tree.specs.Tree.{tree}
@@ -23,28 +23,28 @@ pub running_more : (v : ℕ → Float) (n : ℕ) → add binary32 (running v n) 
 unfolding running
 running_more v n = rw add-one
 
-running-ext : (u v : ℕ → Float) (n : ℕ) → ((i : ℕ) → i < n → u i ≡ v i) → running u n ≡ running v n
+running_ext : (u v : ℕ → Float) (n : ℕ) → ((i : ℕ) → i < n → u i ≡ v i) → running u n ≡ running v n
 unfolding running
-running-ext u v zero h = refl
-running-ext u v (suc n) h = rw (running-ext u v n (λ i l. h i (lt_trans l (lt-suc_self n))), h n (lt-suc_self n))
+running_ext u v zero h = refl
+running_ext u v (suc n) h = rw (running_ext u v n (λ i l. h i (lt_trans l (lt-suc_self n))), h n (lt-suc_self n))
 
-pub meets-ext : (m : Meeting) (u v : ℕ → Float) (n : ℕ) → ((i : ℕ) → i < n → u i ≡ v i) → meets m u n ≡ meets m v n
+pub meets_ext : (m : Meeting) (u v : ℕ → Float) (n : ℕ) → ((i : ℕ) → i < n → u i ≡ v i) → meets m u n ≡ meets m v n
 unfolding meets
-meets-ext Tree u v n h = ap tree (table-ext u v n h)
-meets-ext Running u v n h = running-ext u v n h
+meets_ext Tree u v n h = ap tree (table_ext u v n h)
+meets_ext Running u v n h = running_ext u v n h
 
 -- ---- results in a slice
 
-pub tree-meets : (l : List Float) → tree l ≡ meets Tree (values l) (length l)
+pub tree_meets : (l : List Float) → tree l ≡ meets Tree (values l) (length l)
 unfolding meets
-tree-meets l = ap tree (sym (table_of l (length l) nan refl))
+tree_meets l = ap tree (sym (table_of l (length l) nan refl))
 
-pub running-meets : (l : List Float) → running (values l) (length l) ≡ meets Running (values l) (length l)
+pub running_meets : (l : List Float) → running (values l) (length l) ≡ meets Running (values l) (length l)
 unfolding meets
-running-meets l = refl
+running_meets l = refl
 
 -- a slice that is the table of v
 pub table_meets : (m : Meeting) (v : ℕ → Float) (l : List Float) (n : ℕ) → l ≡ table v n → meets m (values l) (length l) ≡ meets m v n
 table_meets m v l n e =
-    ap (meets m (values l)) (ap length e ∙ length-table v n)
-    ∙ meets-ext m (values l) v n (λ i h. ap (λ (k : List Float). get_or k i nan) e ∙ getD-table v n i nan h)
+    ap (meets m (values l)) (ap length e ∙ length_table v n)
+    ∙ meets_ext m (values l) v n (λ i h. ap (λ (k : List Float). get_or k i nan) e ∙ get_or_table v n i nan h)

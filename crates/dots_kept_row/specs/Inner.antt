@@ -8,7 +8,7 @@ use Rattle.layouts.specs.declared.format.Format.TheVariants.{OfK}
 use Rattle.layouts.specs.declared.format.FormatK.{FormatK}
 use Rattle.dots_activation.specs.declared.block.Q8Block.{Q8Block}
 use Rattle.dots_activation.specs.Blocks.{block_of, SmallSums}
-use Rattle.dots_integer.specs.Dots.{blockDot}
+use Rattle.dots_integer.specs.Dots.{block_dot}
 
 -- there is room for n blocks
 pub record KeptRoom (n : ℕ) (ds : List Float) (qs sums : List ℤ) : Type 0 where
@@ -32,9 +32,9 @@ pub record Keeps (x : List Float) (n : ℕ) (ds : List Float) (qs sums : List �
   pub at : (t : ℕ) → t < n → KeptOf (block_of (part x (256 * t) 256)) t ds qs sums
 
 -- the dot of a packed block and the block kept at t
-abbrev pub dotKept : FormatK → List ℕ → List Float → List ℤ → List ℤ → ℕ → Float
-dotKept f w ds qs sums t = blockDot f w (get_or ds t nan) (part qs (256 * t) 256) (part sums (8 * t) 8) 256
+abbrev pub dot_kept : FormatK → List ℕ → List Float → List ℤ → List ℤ → ℕ → Float
+dot_kept f w ds qs sums t = block_dot f w (get_or ds t nan) (part qs (256 * t) 256) (part sums (8 * t) 8) 256
 
 -- that of block t of a row of weights
-abbrev pub keptDot : FormatK → List ℕ → List Float → List ℤ → List ℤ → ℕ → Float
-keptDot f w ds qs sums t = dotKept f (block (OfK f) w t) ds qs sums t
+abbrev pub kept_dot : FormatK → List ℕ → List Float → List ℤ → List ℤ → ℕ → Float
+kept_dot f w ds qs sums t = dot_kept f (block (OfK f) w t) ds qs sums t

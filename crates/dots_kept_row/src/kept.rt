@@ -1,10 +1,10 @@
 // A row's activation blocks, kept as scales, quants and sums: block t has its scale at t, its quants from 256 t on and
 // its sums from 8 t on.
 ghost use Rattle.std.specs.Prelude.{◌≡◌, ◌+◌, ◌*◌, ◌/◌, ◌≤◌, ◌<◌, length};
-ghost use Rattle.refusals.specs.Sizes.{mostIn};
-ghost use Rattle.layouts.specs.Formats.{bytesK};
+ghost use Rattle.refusals.specs.Sizes.{most_in};
+ghost use Rattle.layouts.specs.Formats.{bytes_k};
 ghost use Rattle.dots_kept_row.specs.Meets.{meets};
-ghost use Rattle.dots_kept_row.specs.Inner.{dotKept, keptDot, KeptRoom, KeptRow, Keeps};
+ghost use Rattle.dots_kept_row.specs.Inner.{dot_kept, kept_dot, KeptRoom, KeptRow, Keeps};
 
 use crate::meeting::{Meeting, meet};
 use layouts::{Format, FormatK};
@@ -31,7 +31,7 @@ fn lay_sums(eight: &[i32], out: &mut [i32])
 
 // Quantises a row of readings, whole blocks.
 pub fn keep_row(x: &[f32], ds: &mut [f32], qs: &mut [i8], sums: &mut [i32])
-    requires { (length x.now ≤ mostIn) × KeptRoom (length x.now / 256) ds.old qs.old sums.old }
+    requires { (length x.now ≤ most_in) × KeptRoom (length x.now / 256) ds.old qs.old sums.old }
     ensures { Keeps x.now (length x.now / 256) ds.new qs.new
         sums.new }
 {
@@ -52,8 +52,8 @@ pub fn keep_row(x: &[f32], ds: &mut [f32], qs: &mut [i8], sums: &mut [i32])
 
 // The dot of a packed block and the activation block kept at t.
 fn kept_dot(format: FormatK, w: &[u8], t: usize, ds: &[f32], qs: &[i8], sums: &[i32]) -> f32
-    requires { (length w.now ≡ bytesK format) × (t < 512) × KeptRow (t + 1) ds.now qs.now sums.now }
-    ensures { result ≡ dotKept format w.now ds.now qs.now sums.now t }
+    requires { (length w.now ≡ bytes_k format) × (t < 512) × KeptRow (t + 1) ds.now qs.now sums.now }
+    ensures { result ≡ dot_kept format w.now ds.now qs.now sums.now t }
 {
     let from = 256 * t;
     let to = from + 256;
@@ -72,10 +72,10 @@ pub fn kept_row_dot(
     sums: &[i32],
     dots: &mut [f32],
 ) -> f32
-    requires { (length dots.old ≤ 512) × (length dots.old * bytesK format ≤ length w.now)
+    requires { (length dots.old ≤ 512) × (length dots.old * bytes_k format ≤ length w.now)
         × KeptRow (length dots.old) ds.now qs.now sums.now }
     ensures { result ≡ meets meeting
-        (keptDot format w.now ds.now qs.now sums.now)
+        (kept_dot format w.now ds.now qs.now sums.now)
         (length dots.old) }
 {
     let size = layouts::block_bytes(Format::OfK(format));

@@ -8,20 +8,20 @@ use Rattle.refusals.specs.Said.{Said, value, refused, done}
 use Rattle.numbers.specs.Alike.{Alike}
 use Rattle.layouts.specs.declared.format.FormatK.{FormatK}
 use Rattle.sums_lanes.specs.Lanes.{products}
-use Rattle.sums.specs.Rows.{rowSum}
-use Rattle.sums.specs.Says.{dotSays}
-use Rattle.dots_fused.specs.Says.{fusedSays}
+use Rattle.sums.specs.Rows.{row_sum}
+use Rattle.sums.specs.Says.{dot_says}
+use Rattle.dots_fused.specs.Says.{fused_says}
 use Rattle.layers_shape.specs.declared.Shape.{Shape}
-use Rattle.layers_fused.specs.Says.{fusedLayerSays}
+use Rattle.layers_fused.specs.Says.{fused_layer_says}
 
 -- ---- readings and weights exchanged
 
 -- Exchanging x and w keeps the bits, or NaN both times: `≡` says both, since there is one NaN.
 pub record ExchangeLaw : Type 0 where
   -- the sum of a row, whatever the lengths: a place that a list does not have counts as NaN
-  pub rows : (x w : List Float) (n : ℕ) → rowSum (products x w) n ≡ rowSum (products w x) n
+  pub rows : (x w : List Float) (n : ℕ) → row_sum (products x w) n ≡ row_sum (products w x) n
   -- `canonical_dot_pub`, with at least n values on both sides: short of weights it says 3, and short of readings 4
-  pub dots : (x w : List Float) (n : ℕ) → n ≤ length x → n ≤ length w → dotSays x w n ≡ dotSays w x n
+  pub dots : (x w : List Float) (n : ℕ) → n ≤ length x → n ≤ length w → dot_says x w n ≡ dot_says w x n
 
 -- ---- every reading negated
 
@@ -54,12 +54,12 @@ pub record NegationLaw : Type 0 where
   -- what a comparison tells of two floats that are turned
   pub compares : {a b : Float} → Turned a b → T (agree a (neg b))
   -- the sum of a row
-  pub rows : (x w : List Float) (n : ℕ) → Turned (rowSum (products (negated x) w) n) (rowSum (products x w) n)
+  pub rows : (x w : List Float) (n : ℕ) → Turned (row_sum (products (negated x) w) n) (row_sum (products x w) n)
   -- `canonical_dot_pub`
-  pub dots : (x w : List Float) (n : ℕ) → DotTurned (dotSays (negated x) w n) (dotSays x w n)
+  pub dots : (x w : List Float) (n : ℕ) → DotTurned (dot_says (negated x) w n) (dot_says x w n)
   -- the fused dots, of each format
-  pub fused-dots : (f : FormatK) (x : List Float) (w : List ℕ) (n : ℕ)
-      → DotTurned (fusedSays f (negated x) w n) (fusedSays f x w n)
+  pub fused_dots : (f : FormatK) (x : List Float) (w : List ℕ) (n : ℕ)
+      → DotTurned (fused_says f (negated x) w n) (fused_says f x w n)
   -- the fused layers, of each format
-  pub fused-layers : (f : FormatK) (s : Shape) (x : List Float) (w : List ℕ) (y : List Float)
-      → LayerTurned (s.batch * s.out_feat) (fusedLayerSays f s (negated x) w y) (fusedLayerSays f s x w y)
+  pub fused_layers : (f : FormatK) (s : Shape) (x : List Float) (w : List ℕ) (y : List Float)
+      → LayerTurned (s.batch * s.out_feat) (fused_layer_says f s (negated x) w y) (fused_layer_says f s x w y)

@@ -10,7 +10,7 @@ use lib.Dec.{ltb, eqb}
 use lib.IntN.{ℤ, pos, ◌+ℤ◌, +ℤ_assoc, +ℤ_comm, +ℤ_idl}
 use lib.ListN.{length, get_or}
 use Rattle.readings.proofs.Peaks.{peak}
-use Rattle.dots_activation.specs.Whole.{sumℤ}
+use Rattle.dots_activation.specs.Whole.{sum_ℤ}
 use Rattle.dots_rearranged.specs.Orders.{times, Rearrangement, from}
 
 -- ---- an entry is below n, or n, or over it
@@ -50,13 +50,13 @@ module _ {A : Type 0} {plus : A → A → A} {none : A} (law : Orderless plus no
   idr : (a : A) → plus a none ≡ a
   idr a = law.comm a none ∙ law.idl a
 
-  pub gathered-same : (f g : ℕ → A) (n : ℕ) → ((i : ℕ) → i < n → f i ≡ g i) → gathered plus none f n ≡ gathered plus none g n
-  gathered-same f g zero h = refl
-  gathered-same f g (suc n) h = rw (gathered-same f g n (λ i q. h i (omega arith)), h n (omega arith))
+  pub gathered_same : (f g : ℕ → A) (n : ℕ) → ((i : ℕ) → i < n → f i ≡ g i) → gathered plus none f n ≡ gathered plus none g n
+  gathered_same f g zero h = refl
+  gathered_same f g (suc n) h = rw (gathered_same f g n (λ i q. h i (omega arith)), h n (omega arith))
 
-  gathered-add : (f : ℕ → A) (a b : ℕ) → gathered plus none f (a + b) ≡ plus (gathered plus none f a) (gathered plus none (λ i. f (a + i)) b)
-  gathered-add f a zero = rw (add-zero a) (sym (idr _))
-  gathered-add f a (suc b) = rw (add-suc a b, gathered-add f a b) (law.assoc _ _ _)
+  gathered_add : (f : ℕ → A) (a b : ℕ) → gathered plus none f (a + b) ≡ plus (gathered plus none f a) (gathered plus none (λ i. f (a + i)) b)
+  gathered_add f a zero = rw (add-zero a) (sym (idr _))
+  gathered_add f a (suc b) = rw (add-suc a b, gathered_add f a b) (law.assoc _ _ _)
 
   again : ℕ → A → A
   again zero z = none
@@ -96,15 +96,15 @@ module _ {A : Type 0} {plus : A → A → A} {none : A} (law : Orderless plus no
         ∙ ap (λ x. plus x (f n)) (picked_all n ps (λ j q. h j (omega arith)))
 
     -- the first, and the rest
-    gathered-front : (g : ℕ → A) (k : ℕ) → gathered plus none g (suc k) ≡ plus (g 0) (gathered plus none (λ i. g (suc i)) k)
-    gathered-front g zero = law.comm none (g 0)
-    gathered-front g (suc k) = ap (λ x. plus x (g (suc k))) (gathered-front g k) ∙ law.assoc (g 0) (gathered plus none (λ i. g (suc i)) k) (g (suc k))
+    gathered_front : (g : ℕ → A) (k : ℕ) → gathered plus none g (suc k) ≡ plus (g 0) (gathered plus none (λ i. g (suc i)) k)
+    gathered_front g zero = law.comm none (g 0)
+    gathered_front g (suc k) = ap (λ x. plus x (g (suc k))) (gathered_front g k) ∙ law.assoc (g 0) (gathered plus none (λ i. g (suc i)) k) (g (suc k))
 
     -- a list whose entries are all below n
     listed : (n : ℕ) (ps : List ℕ) → ((i : ℕ) → i < length ps → get_or ps i 0 < n) → gathered plus none (λ i. f (get_or ps i 0)) (length ps) ≡ picked plus none f n ps
     listed n [] h = refl
     listed n (p ∷ ps) h =
-        gathered-front (λ i. f (get_or (p ∷ ps) i 0)) (length ps)
+        gathered_front (λ i. f (get_or (p ∷ ps) i 0)) (length ps)
         ∙ ap (λ x. plus (f p) x) (listed n ps (λ i q. h (suc i) (omega arith)))
         ∙ ap (λ t. plus (cond t (f p) none) (picked plus none f n ps)) (sym (lt-ltb p n (h 0 (omega arith))))
 
@@ -120,10 +120,10 @@ ones : (n : ℕ) → gathered {A = ℕ} (λ a b. a + b) 0 (λ i. 1) n ≡ n
 ones zero = refl
 ones (suc n) = omega (arith, ones n)
 
-below-long : (n : ℕ) (ps : List ℕ) → below n ps ≤ length ps
+below_long : (n : ℕ) (ps : List ℕ) → below n ps ≤ length ps
 unfolding below
-below-long n [] = omega arith
-below-long n (p ∷ ps) = by (ltb p n) (below-long n ps)
+below_long n [] = omega arith
+below_long n (p ∷ ps) = by (ltb p n) (below_long n ps)
   where
     by : (t : Bool) → below n ps ≤ length ps → cond t 1 0 + below n ps ≤ suc (length ps)
     by true h = omega arith
@@ -138,17 +138,17 @@ below_each n (p ∷ ps) e i h = by (ltb p n) refl e i h (below_each n ps)
         → (below n ps ≡ length ps → (i : ℕ) → i < length ps → get_or ps i 0 < n) → get_or (p ∷ ps) i 0 < n
     by true a e zero h g = ltb-true p n a
     by true a e (suc i) h g = g (omega arith) i (omega arith)
-    by false a e i h g = absurd (omega (arith, below-long n ps))
+    by false a e i h g = absurd (omega (arith, below_long n ps))
 
-pub place-below : {R : ℕ} {ps : List ℕ} → Rearrangement R ps → (i : ℕ) → i < R → get_or ps i 0 < R
+pub place_below : {R : ℕ} {ps : List ℕ} → Rearrangement R ps → (i : ℕ) → i < R → get_or ps i 0 < R
 unfolding below
-place-below {R} {ps} r i h = below_each R ps (picked_all counting (λ j. 1) R ps r.once ∙ ones R ∙ sym r.long) i (omega (arith, r.long))
+place_below {R} {ps} r i h = below_each R ps (picked_all counting (λ j. 1) R ps r.once ∙ ones R ∙ sym r.long) i (omega (arith, r.long))
 
 -- ---- runs of R
 
 -- the runs from run a on
-pub from-shift : (R : ℕ) (orders : ℕ → List ℕ) (a i : ℕ) → 0 < R → from R orders (R * a + i) ≡ R * a + from R (λ r. orders (a + r)) i
-from-shift R orders a i p = rw (mul-add-div p a i, mul-add-mod_self_left R a i, mul-add R a (i / R)) (add_assoc (R * a) (R * (i / R)) _)
+pub from_shift : (R : ℕ) (orders : ℕ → List ℕ) (a i : ℕ) → 0 < R → from R orders (R * a + i) ≡ R * a + from R (λ r. orders (a + r)) i
+from_shift R orders a i p = rw (mul-add-div p a i, mul-add-mod_self_left R a i, mul-add R a (i / R)) (add_assoc (R * a) (R * (i / R)) _)
 
 -- the first run
 from_first : (R : ℕ) (orders : ℕ → List ℕ) (l : ℕ) → l < R → from R orders l ≡ get_or (orders 0) l 0
@@ -156,50 +156,50 @@ from_first R orders l h = rw (div-eq_of_lt h, mod-eq_of_lt h, mul-zero R) (zero-
 
 module _ {A : Type 0} {plus : A → A → A} {none : A} (law : Orderless plus none) where
   -- over R places, in the order of a rearrangement
-  pub gathered-rearranged : (f : ℕ → A) {R : ℕ} {ps : List ℕ} → Rearrangement R ps → gathered plus none (λ i. f (get_or ps i 0)) R ≡ gathered plus none f R
-  gathered-rearranged f {R} {ps} r =
+  pub gathered_rearranged : (f : ℕ → A) {R : ℕ} {ps : List ℕ} → Rearrangement R ps → gathered plus none (λ i. f (get_or ps i 0)) R ≡ gathered plus none f R
+  gathered_rearranged f {R} {ps} r =
       ap (gathered plus none (λ i. f (get_or ps i 0))) (sym r.long)
-      ∙ listed law f R ps (λ i h. place-below r i (omega (arith, r.long)))
+      ∙ listed law f R ps (λ i h. place_below r i (omega (arith, r.long)))
       ∙ picked_all law f R ps r.once
 
   -- over k runs of R, each in an order of its own
-  pub gathered-moved : (f : ℕ → A) (R k : ℕ) (orders : ℕ → List ℕ) → 0 < R → ((r : ℕ) → Rearrangement R (orders r)) → gathered plus none (λ i. f (from R orders i)) (R * k) ≡ gathered plus none f (R * k)
-  gathered-moved f R zero orders p each = rw (mul-zero R)
-  gathered-moved f R (suc k) orders p each =
+  pub gathered_moved : (f : ℕ → A) (R k : ℕ) (orders : ℕ → List ℕ) → 0 < R → ((r : ℕ) → Rearrangement R (orders r)) → gathered plus none (λ i. f (from R orders i)) (R * k) ≡ gathered plus none f (R * k)
+  gathered_moved f R zero orders p each = rw (mul-zero R)
+  gathered_moved f R (suc k) orders p each =
       rw mul-suc
-      (gathered-add law (λ i. f (from R orders i)) (R * k) R ∙ both (gathered-moved f R k orders p each) last ∙ sym (gathered-add law f (R * k) R))
+      (gathered_add law (λ i. f (from R orders i)) (R * k) R ∙ both (gathered_moved f R k orders p each) last ∙ sym (gathered_add law f (R * k) R))
     where
       both : {a b c d : A} → a ≡ b → c ≡ d → plus a c ≡ plus b d
       both h g = cc
 
       last : gathered plus none (λ l. f (from R orders (R * k + l))) R ≡ gathered plus none (λ l. f (R * k + l)) R
       last =
-          gathered-same law _ _ R (λ l h. ap f (from-shift R orders k l p ∙ ap (λ n. R * k + n) (from_first R (λ r. orders (k + r)) l h)))
-          ∙ gathered-rearranged (λ n. f (R * k + n)) (each (k + 0))
+          gathered_same law _ _ R (λ l h. ap f (from_shift R orders k l p ∙ ap (λ n. R * k + n) (from_first R (λ r. orders (k + r)) l h)))
+          ∙ gathered_rearranged (λ n. f (R * k + n)) (each (k + 0))
 
 -- ---- sums of whole numbers, and the largest of a row of numbers
 
 adding : Orderless (λ a b. a +ℤ b) (pos 0)
 adding = record { assoc = +ℤ_assoc; comm = +ℤ_comm; idl = +ℤ_idl }
 
-sum_is : (f : ℕ → ℤ) (n : ℕ) → sumℤ f n ≡ gathered (λ a b. a +ℤ b) (pos 0) f n
-unfolding sumℤ
+sum_is : (f : ℕ → ℤ) (n : ℕ) → sum_ℤ f n ≡ gathered (λ a b. a +ℤ b) (pos 0) f n
+unfolding sum_ℤ
 sum_is f zero = refl
 sum_is f (suc n) = rw (sum_is f n)
 
-pub sum-rearranged : (R : ℕ) (ps : List ℕ) → Rearrangement R ps → (f : ℕ → ℤ) → sumℤ (λ i. f (get_or ps i 0)) R ≡ sumℤ f R
-sum-rearranged R ps r f = sum_is _ R ∙ gathered-rearranged adding f r ∙ sym (sum_is f R)
+pub sum_rearranged : (R : ℕ) (ps : List ℕ) → Rearrangement R ps → (f : ℕ → ℤ) → sum_ℤ (λ i. f (get_or ps i 0)) R ≡ sum_ℤ f R
+sum_rearranged R ps r f = sum_is _ R ∙ gathered_rearranged adding f r ∙ sym (sum_is f R)
 
 -- n places that are k runs of R
-pub sum_moved : (f : ℕ → ℤ) (R k n : ℕ) (orders : ℕ → List ℕ) → R * k ≡ n → 0 < R → ((r : ℕ) → Rearrangement R (orders r)) → sumℤ (λ i. f (from R orders i)) n ≡ sumℤ f n
-sum_moved f R k n orders e p each = rw (← e) (sum_is _ (R * k) ∙ gathered-moved adding f R k orders p each ∙ sym (sum_is f (R * k)))
+pub sum_moved : (f : ℕ → ℤ) (R k n : ℕ) (orders : ℕ → List ℕ) → R * k ≡ n → 0 < R → ((r : ℕ) → Rearrangement R (orders r)) → sum_ℤ (λ i. f (from R orders i)) n ≡ sum_ℤ f n
+sum_moved f R k n orders e p each = rw (← e) (sum_is _ (R * k) ∙ gathered_moved adding f R k orders p each ∙ sym (sum_is f (R * k)))
 
 larger : Orderless {A = ℕ} max 0
 larger = record { assoc = λ a b c. omega arith; comm = max_comm; idl = zero-max }
 
-peak-is : (f : ℕ → ℕ) (n : ℕ) → peak f n ≡ gathered max 0 f n
-peak-is f zero = refl
-peak-is f (suc n) = rw (peak-is f n)
+peak_is : (f : ℕ → ℕ) (n : ℕ) → peak f n ≡ gathered max 0 f n
+peak_is f zero = refl
+peak_is f (suc n) = rw (peak_is f n)
 
-pub peak-moved : (f : ℕ → ℕ) (R k n : ℕ) (orders : ℕ → List ℕ) → R * k ≡ n → 0 < R → ((r : ℕ) → Rearrangement R (orders r)) → peak (λ i. f (from R orders i)) n ≡ peak f n
-peak-moved f R k n orders e p each = rw (← e) (peak-is _ (R * k) ∙ gathered-moved larger f R k orders p each ∙ sym (peak-is f (R * k)))
+pub peak_moved : (f : ℕ → ℕ) (R k n : ℕ) (orders : ℕ → List ℕ) → R * k ≡ n → 0 < R → ((r : ℕ) → Rearrangement R (orders r)) → peak (λ i. f (from R orders i)) n ≡ peak f n
+peak_moved f R k n orders e p each = rw (← e) (peak_is _ (R * k) ∙ gathered_moved larger f R k orders p each ∙ sym (peak_is f (R * k)))

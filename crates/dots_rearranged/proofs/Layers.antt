@@ -10,33 +10,33 @@ use lib.ListN.{length, get_or, drop, length-take, length-drop}
 use lib.Seq.{ext_get_or}
 use lib.Ieee.{Float, nan}
 use Rattle.refusals.specs.Said.{Said, value, refused, done}
-use Rattle.refusals.specs.Refusals.{carriedOut}
-use Rattle.memory.specs.Lists.{part, stretchLength}
-use Rattle.memory.proofs.Filled.{table-ext, part_at}
+use Rattle.refusals.specs.Refusals.{carried_out}
+use Rattle.memory.specs.Lists.{part, stretch_length}
+use Rattle.memory.proofs.Filled.{table_ext, part_at}
 use Rattle.memory.proofs.Parts.{within}
-use Rattle.layouts.specs.Formats.{bytesK}
+use Rattle.layouts.specs.Formats.{bytes_k}
 use Rattle.layouts.specs.Weights.{block}
 use Rattle.layouts.specs.declared.format.Format.TheVariants.{OfK}
 use Rattle.layouts.specs.declared.format.FormatK.{FormatK}
 use Rattle.dots_activation.specs.Blocks.{block_of}
 use Rattle.dots_integer_row.specs.Rows.{block_at}
 use Rattle.dots_kept_row.specs.declared.meeting.Meeting.{Meeting}
-use Rattle.dots_kept_row.proofs.Meets.{meets-ext}
+use Rattle.dots_kept_row.proofs.Meets.{meets_ext}
 use Rattle.layers_shape.specs.declared.Shape.{Shape}
-use Rattle.layers_shape.specs.Shapes.{rowBytes, readingRow, weightRow, outputs}
+use Rattle.layers_shape.specs.Shapes.{row_bytes, reading_row, weight_row, outputs}
 use Rattle.layers_shape.proofs.Fits.{Fits, fits}
-use Rattle.layers_integer_row.specs.Outputs.{integerDotAt, integerOutputs}
-use Rattle.layers_integer.specs.Says.{integerLayerSays}
-use Rattle.dots_rearranged.specs.Moved.{run, Rearrangements, ofBlock, movedWeights, movedReadings, everyRow}
+use Rattle.layers_integer_row.specs.Outputs.{integer_dot_at, integer_outputs}
+use Rattle.layers_integer.specs.Says.{integer_layer_says}
+use Rattle.dots_rearranged.specs.Moved.{run, Rearrangements, of_block, moved_weights, moved_readings, every_row}
 use Rattle.dots_rearranged.specs.Laws.{Singles}
-use Rattle.dots_rearranged.proofs.Places.{runs-in}
-use Rattle.dots_rearranged.proofs.Weights.{weights-long, weights-moved}
-use Rattle.dots_rearranged.proofs.Activations.{readings-long, readings-moved}
-use Rattle.dots_rearranged.proofs.Blocks.{with-moved}
+use Rattle.dots_rearranged.proofs.Places.{runs_in}
+use Rattle.dots_rearranged.proofs.Weights.{weights_long, weights_moved}
+use Rattle.dots_rearranged.proofs.Activations.{readings_long, readings_moved}
+use Rattle.dots_rearranged.proofs.Blocks.{with_moved}
 
 -- a part of a part
-part-part : {A : Type 0} (l : List A) (a k b z : ℕ) (d : A) → b + z ≤ k → part (part l a k) b z ≡ part l (a + b) z
-part-part l a k b z d h = ext_get_or d (part (part l a k) b z) (part l (a + b) z) long at
+part_part : {A : Type 0} (l : List A) (a k b z : ℕ) (d : A) → b + z ≤ k → part (part l a k) b z ≡ part l (a + b) z
+part_part l a k b z d h = ext_get_or d (part (part l a k) b z) (part l (a + b) z) long at
   where
     long : length (part (part l a k) b z) ≡ length (part l (a + b) z)
     long = simp (length-take, length-drop) (omega arith)
@@ -48,12 +48,12 @@ part-part l a k b z d h = ext_get_or d (part (part l a k) b z) (part l (a + b) z
 
 -- rows of n places, k whole blocks: block c of row o is block o * k + c, and its runs are rearranged as those of block c
 module _ (f : FormatK) (orders : ℕ → List ℕ) (n : ℕ) (whole : n % 256 ≡ 0) where
-  runs-in-row : n / run f ≡ 256 / run f * (n / 256)
-  runs-in-row =
+  runs_in_row : n / run f ≡ 256 / run f * (n / 256)
+  runs_in_row =
       let e : n ≡ 256 * (n / 256) = omega arith in
-      ap (λ (k : ℕ). k / run f) e ∙ runs-in f (n / 256)
+      ap (λ (k : ℕ). k / run f) e ∙ runs_in f (n / 256)
 
-  same_runs : (o c : ℕ) → ofBlock f (everyRow f n orders) (o * (n / 256) + c) ≡ ofBlock f (everyRow f n orders) c
+  same_runs : (o c : ℕ) → of_block f (every_row f n orders) (o * (n / 256) + c) ≡ of_block f (every_row f n orders) c
   same_runs o c = fun_ext (λ r. ap orders (same r))
     where
       same : (r : ℕ) → (256 / run f * (o * (n / 256) + c) + r) % (n / run f) ≡ (256 / run f * c + r) % (n / run f)
@@ -62,13 +62,13 @@ module _ (f : FormatK) (orders : ℕ → List ℕ) (n : ℕ) (whole : n % 256 �
           let m = n / 256 in
           let e : k * (o * m + c) + r ≡ o * (k * m) + (k * c + r) =
           ap (λ (p : ℕ). p + r) (mul-add k (o * m) c ∙ ap (λ (p : ℕ). p + k * c) (sym (mul_assoc k o m) ∙ ap (λ (p : ℕ). p * m) (mul_comm k o) ∙ mul_assoc o k m)) ∙ add_assoc (o * (k * m)) (k * c) r in
-          rw (runs-in-row, e) (mul-add-mod_self_right o (k * m) (k * c + r))
+          rw (runs_in_row, e) (mul-add-mod_self_right o (k * m) (k * c + r))
 
   -- where block c of row o of weights lies
-  weight-block : (l : List ℕ) (o c : ℕ) → c < n / 256 → block (OfK f) (weightRow f l n o) c ≡ block (OfK f) l (o * (n / 256) + c)
-  weight-block l o c h =
-      let z = bytesK f in
-      part-part l (o * rowBytes f n) (rowBytes f n) (c * z) z 0 (within c z (n / 256) (rowBytes f n) h (le_refl _))
+  weight_block : (l : List ℕ) (o c : ℕ) → c < n / 256 → block (OfK f) (weight_row f l n o) c ≡ block (OfK f) l (o * (n / 256) + c)
+  weight_block l o c h =
+      let z = bytes_k f in
+      part_part l (o * row_bytes f n) (row_bytes f n) (c * z) z 0 (within c z (n / 256) (row_bytes f n) h (le_refl _))
       ∙ ap (λ (a : ℕ). part l a z) (ap (λ (a : ℕ). a + c * z) (sym (mul_assoc o (n / 256) z)) ∙ sym (add-mul (o * (n / 256)) c z))
 
   rows_whole : (b : ℕ) → b * n ≡ 256 * (b * (n / 256))
@@ -77,9 +77,9 @@ module _ (f : FormatK) (orders : ℕ → List ℕ) (n : ℕ) (whole : n % 256 �
       ap (λ (k : ℕ). b * k) e ∙ sym (mul_assoc b 256 (n / 256)) ∙ ap (λ (k : ℕ). k * (n / 256)) (mul_comm b 256) ∙ mul_assoc 256 b (n / 256)
 
   -- and block c of row b of readings
-  reading-block : (l : List Float) (b c : ℕ) → c < n / 256 → part (part l (b * n) n) (256 * c) 256 ≡ part l (256 * (b * (n / 256) + c)) 256
-  reading-block l b c h =
-      part-part l (b * n) n (256 * c) 256 nan (omega arith)
+  reading_block : (l : List Float) (b c : ℕ) → c < n / 256 → part (part l (b * n) n) (256 * c) 256 ≡ part l (256 * (b * (n / 256) + c)) 256
+  reading_block l b c h =
+      part_part l (b * n) n (256 * c) 256 nan (omega arith)
       ∙ ap (λ (a : ℕ). part l a 256) (ap (λ (a : ℕ). a + 256 * c) (rows_whole b) ∙ sym (mul-add 256 (b * (n / 256)) c))
 
 positive : (a b k : ℕ) → k < a * b → 0 < b
@@ -91,53 +91,53 @@ module _ (f : FormatK) (orders : ℕ → List ℕ) (each : Rearrangements f orde
   n = s.in_feat
 
   abbrev rows : ℕ → List ℕ
-  rows = everyRow f n orders
+  rows = every_row f n orders
 
   abbrev x' : List Float
-  x' = movedReadings f rows (s.batch * (n / 256)) x
+  x' = moved_readings f rows (s.batch * (n / 256)) x
 
   abbrev w' : List ℕ
-  w' = movedWeights f rows (s.out_feat * (n / 256)) w
+  w' = moved_weights f rows (s.out_feat * (n / 256)) w
 
   module _ (places : ℕ) (h : Fits f s (length x) (length w) places) where
-    block-kept : (b o c : ℕ) → b < s.batch → o < s.out_feat → c < n / 256 → block_at f (readingRow x' s b) (weightRow f w' n o) n c ≡ block_at f (readingRow x s b) (weightRow f w n o) n c
-    block-kept b o c hb ho hc =
+    block_kept : (b o c : ℕ) → b < s.batch → o < s.out_feat → c < n / 256 → block_at f (reading_row x' s b) (weight_row f w' n o) n c ≡ block_at f (reading_row x s b) (weight_row f w n o) n c
+    block_kept b o c hb ho hc =
         let whole = h.whole in
         let each' : Rearrangements f rows = λ r. each (r % (n / run f)) in
-        let size : stretchLength 256 n c ≡ 256 = omega arith in
+        let size : stretch_length 256 n c ≡ 256 = omega arith in
         let read : 256 * (s.batch * (n / 256)) ≤ length x = rw (← rows_whole f orders n whole s.batch) h.read in
-        let weighed : s.out_feat * (n / 256) * bytesK f ≤ length w = rw mul_assoc h.weighed in
-        let readings = rw (same_runs f orders n whole b c) at (readings-moved f rows (s.batch * (n / 256)) x each' single (b * (n / 256) + c) (digits_lt hb hc) read) in
-        let weights = rw (same_runs f orders n whole o c) at (weights-moved f rows (s.out_feat * (n / 256)) w each' (o * (n / 256) + c) (digits_lt ho hc) weighed) in
-        rw (size, weight-block f orders n whole w' o c hc, weight-block f orders n whole w o c hc, reading-block f orders n whole x' b c hc, reading-block f orders n whole x b c hc, readings)
-        (with-moved f (ofBlock f rows c) (λ r. each' (256 / run f * c + r)) (block_of (part x (256 * (b * (n / 256) + c)) 256)) _ _ weights)
+        let weighed : s.out_feat * (n / 256) * bytes_k f ≤ length w = rw mul_assoc h.weighed in
+        let readings = rw (same_runs f orders n whole b c) at (readings_moved f rows (s.batch * (n / 256)) x each' single (b * (n / 256) + c) (digits_lt hb hc) read) in
+        let weights = rw (same_runs f orders n whole o c) at (weights_moved f rows (s.out_feat * (n / 256)) w each' (o * (n / 256) + c) (digits_lt ho hc) weighed) in
+        rw (size, weight_block f orders n whole w' o c hc, weight_block f orders n whole w o c hc, reading_block f orders n whole x' b c hc, reading_block f orders n whole x b c hc, readings)
+        (with_moved f (of_block f rows c) (λ r. each' (256 / run f * c + r)) (block_of (part x (256 * (b * (n / 256) + c)) 256)) _ _ weights)
 
-    output-kept : (b o : ℕ) → b < s.batch → o < s.out_feat → integerDotAt f m (readingRow x' s b) w' n o ≡ integerDotAt f m (readingRow x s b) w n o
-    output-kept b o hb ho = meets-ext m _ _ (n / 256) (λ c hc. block-kept b o c hb ho hc)
+    output_kept : (b o : ℕ) → b < s.batch → o < s.out_feat → integer_dot_at f m (reading_row x' s b) w' n o ≡ integer_dot_at f m (reading_row x s b) w n o
+    output_kept b o hb ho = meets_ext m _ _ (n / 256) (λ c hc. block_kept b o c hb ho hc)
 
-    outputs-kept : (y : List Float) → integerOutputs f m s x' w' y ≡ integerOutputs f m s x w y
+    outputs_kept : (y : List Float) → integer_outputs f m s x' w' y ≡ integer_outputs f m s x w y
     unfolding outputs
-    outputs-kept y =
+    outputs_kept y =
         let outs = s.out_feat in
         ap (λ (l : List Float). l ++ drop (s.batch * outs) y)
-        (table-ext _ _ (s.batch * outs) (λ k l. output-kept (k / outs) (k % outs) ((div-lt_iff_lt-mul (some k l)).1 l) (mod-lt k (some k l))))
+        (table_ext _ _ (s.batch * outs) (λ k l. output_kept (k / outs) (k % outs) ((div-lt_iff_lt-mul (some k l)).1 l) (mod-lt k (some k l))))
       where
         some : (k : ℕ) → k < s.batch * s.out_feat → 0 < s.out_feat
         some k l = positive s.batch s.out_feat k l
 
 -- what is carried out is the same where it is done
-carried_same : {M : Type 0} (said : Said (Unit {0})) (a b old : M) → (said ≡ done → a ≡ b) → carriedOut said a old ≡ carriedOut said b old
-unfolding carriedOut
+carried_same : {M : Type 0} (said : Said (Unit {0})) (a b old : M) → (said ≡ done → a ≡ b) → carried_out said a old ≡ carried_out said b old
+unfolding carried_out
 carried_same (value tt) a b old h = rw (h refl)
 carried_same (refused why) a b old h = refl
 
 pub layers : (f : FormatK) (orders : ℕ → List ℕ) → Rearrangements f orders → (m : Meeting) (s : Shape) (x : List Float) (w : List ℕ) (y : List Float) → Singles x
-    → (let rows = everyRow f s.in_feat orders in
+    → (let rows = every_row f s.in_feat orders in
     let full = s.in_feat / 256 in
-    integerLayerSays f m s (movedReadings f rows (s.batch * full) x) (movedWeights f rows (s.out_feat * full) w) y ≡ integerLayerSays f m s x w y)
-unfolding integerLayerSays
+    integer_layer_says f m s (moved_readings f rows (s.batch * full) x) (moved_weights f rows (s.out_feat * full) w) y ≡ integer_layer_says f m s x w y)
+unfolding integer_layer_says
 layers f orders each m s x w y single =
-    let rows = everyRow f s.in_feat orders in
+    let rows = every_row f s.in_feat orders in
     let full = s.in_feat / 256 in
-    rw (readings-long f rows (s.batch * full) x, weights-long f rows (s.out_feat * full) w)
-    (carried_same _ _ _ y (λ ok. outputs-kept f orders each m s x w single (length y) (fits f s (length x) (length w) (length y) ok) y))
+    rw (readings_long f rows (s.batch * full) x, weights_long f rows (s.out_feat * full) w)
+    (carried_same _ _ _ y (λ ok. outputs_kept f orders each m s x w single (length y) (fits f s (length x) (length w) (length y) ok) y))

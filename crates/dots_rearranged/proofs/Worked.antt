@@ -7,28 +7,28 @@ use Rattle.refusals.specs.Said.{Said, value, refused}
 use Rattle.refusals.specs.Refusals.{given}
 use Rattle.memory.specs.Lists.{table}
 use Rattle.halves.specs.Binary16.{widened}
-use Rattle.layouts.specs.K.{scaleQ4K, minimumQ4K, quantQ4K}
-use Rattle.layouts.specs.Weights.{weightAt}
+use Rattle.layouts.specs.K.{scale_q4k, minimum_q4k, quant_q4k}
+use Rattle.layouts.specs.Weights.{weight_at}
 use Rattle.layouts.specs.declared.format.FormatK.TheVariants.{Q4K}
-use Rattle.sums_tree.specs.Tree.{tree, met, pairUp}
-use Rattle.sums_lanes.specs.Lanes.{addTo, lanesFrom, lanes, chunkSum}
-use Rattle.sums.specs.Rows.{chunkAt, rowSum}
-use Rattle.dots_fused.specs.Says.{fusedSays}
-use Rattle.dots_rearranged.specs.Moved.{movedByte, movedWeights, movedReadings}
-use Rattle.dots_rearranged.specs.Worked.{channels, weightsOf, readingsOf, weightsBefore, readingsBefore, FusedRow}
+use Rattle.sums_tree.specs.Tree.{tree, met, pair_up}
+use Rattle.sums_lanes.specs.Lanes.{add_to, lanes_from, lanes, chunk_sum}
+use Rattle.sums.specs.Rows.{chunk_at, row_sum}
+use Rattle.dots_fused.specs.Says.{fused_says}
+use Rattle.dots_rearranged.specs.Moved.{moved_byte, moved_weights, moved_readings}
+use Rattle.dots_rearranged.specs.Worked.{channels, weights_of, readings_of, weights_before, readings_before, FusedRow}
 
-pub fused-row : FusedRow
-unfolding movedWeights movedReadings movedByte weightsOf readingsOf fusedSays given rowSum chunkAt chunkSum lanes lanesFrom addTo tree met pairUp table weightAt scaleQ4K minimumQ4K quantQ4K widened of_bits of_int add sub mul
-fused-row = record { weights = refl; readings = refl; before = refl; after = refl }
+pub fused_row : FusedRow
+unfolding moved_weights moved_readings moved_byte weights_of readings_of fused_says given row_sum chunk_at chunk_sum lanes lanes_from add_to tree met pair_up table weight_at scale_q4k minimum_q4k quant_q4k widened of_bits of_int add sub mul
+fused_row = record { weights = refl; readings = refl; before = refl; after = refl }
 
 -- the bits of a value
 bits : Said Float → ℕ
 bits (value v) = to_bits binary32 v
 bits (refused why) = 0
 
-bits-apart : bits (value (of_bits binary32 0x4b80_0000)) ≡ bits (value (of_bits binary32 0x4b80_0001)) → ⊥
+bits_apart : bits (value (of_bits binary32 0x4b80_0000)) ≡ bits (value (of_bits binary32 0x4b80_0001)) → ⊥
 unfolding bits to_bits of_bits
-bits-apart e = let n : ◌≡◌ {A = ℕ} 0x4b80_0000 0x4b80_0001 = e in omega arith
+bits_apart e = let n : ◌≡◌ {A = ℕ} 0x4b80_0000 0x4b80_0001 = e in omega arith
 
-pub fused-differs : fusedSays Q4K (movedReadings Q4K channels 1 readingsBefore) (movedWeights Q4K channels 1 weightsBefore) 256 ≡ fusedSays Q4K readingsBefore weightsBefore 256 → ⊥
-fused-differs e = bits-apart (ap bits (sym (rw (fused-row.readings, fused-row.weights) fused-row.after) ∙ e ∙ fused-row.before))
+pub fused_differs : fused_says Q4K (moved_readings Q4K channels 1 readings_before) (moved_weights Q4K channels 1 weights_before) 256 ≡ fused_says Q4K readings_before weights_before 256 → ⊥
+fused_differs e = bits_apart (ap bits (sym (rw (fused_row.readings, fused_row.weights) fused_row.after) ∙ e ∙ fused_row.before))

@@ -26,5 +26,5 @@ alone R r ps s = cond (eqb s r) ps (unmoved R)
 
 -- Two channels that come reading by reading are put together: the even places fill the first half of a run, and the
 -- odd ones the second.
-abbrev pub twoChannels : ℕ → List ℕ
-twoChannels R = table (λ (i : ℕ). cond (ltb i (R / 2)) (2 * i) (2 * (i - R / 2) + 1)) R
+abbrev pub two_channels : ℕ → List ℕ
+two_channels R = table (λ (i : ℕ). cond (ltb i (R / 2)) (2 * i) (2 * (i - R / 2) + 1)) R

@@ -7,7 +7,7 @@ use lib.IntN.{ℤ, pos}
 use lib.ListN.{length, get_or, take, drop}
 use Rattle.memory.proofs.Filled.{part_at, part_length}
 use Rattle.dots_activation.specs.Inner.{pair_of}
-use Rattle.dots_whole.specs.Inner.{FiveBits, productAt}
+use Rattle.dots_whole.specs.Inner.{FiveBits, product_at}
 
 -- the part as it is lent
 abbrev pub lent : {A : Type 0} → List A → ℕ → List A
@@ -19,15 +19,15 @@ lent_at xs g i z h = let n : 64 * g + 64 - 64 * g ≡ 64 = omega arith in rw n (
 pub lent_length : {A : Type 0} (xs : List A) (g : ℕ) → length xs ≡ 256 → g < 4 → length (lent xs g) ≡ 64
 lent_length xs g e h = part_length xs (64 * g) 64 (64 * g + 64) refl (omega arith)
 
-pub five-bits-lent : (q : List ℕ) (g : ℕ) → length q ≡ 256 → g < 4 → FiveBits q → FiveBits (lent q g)
-five-bits-lent q g e h b = record {
+pub five_bits_lent : (q : List ℕ) (g : ℕ) → length q ≡ 256 → g < 4 → FiveBits q → FiveBits (lent q g)
+five_bits_lent q g e h b = record {
   small = λ i l.
       let r : i < 64 = rw (lent_length q g e h) at l in
       rw (lent_at q g i 0 r) (b.small (64 * g + i) (omega arith));
 }
 
-pub pairs-lent : (q : List ℕ) (x : List ℤ) (g i : ℕ) → i < 32 → pair_of (productAt (lent q g) (lent x g)) i ≡ pair_of (productAt q x) (32 * g + i)
-pairs-lent q x g i h =
+pub pairs_lent : (q : List ℕ) (x : List ℤ) (g i : ℕ) → i < 32 → pair_of (product_at (lent q g) (lent x g)) i ≡ pair_of (product_at q x) (32 * g + i)
+pairs_lent q x g i h =
     let low = 32 * (i / 16) + i % 16 in
     let high = 32 * (i / 16) + (16 + i % 16) in
     let l : low < 64 = omega arith in

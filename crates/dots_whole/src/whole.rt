@@ -5,11 +5,11 @@
 // times a signed byte, stay below 2^31 too.
 ghost use Rattle.std.specs.Prelude.{◌≡◌, ℕ, ◌+◌, ◌*◌, ◌≤◌, ◌<◌, ℤ, pos, ◌+ℤ◌, ◌*ℤ◌, length};
 ghost use Rattle.memory.specs.Lists.{table};
-ghost use Rattle.dots_activation.specs.Whole.{elem, sumℤ, Within};
+ghost use Rattle.dots_activation.specs.Whole.{elem, sum_ℤ, Within};
 ghost use Rattle.dots_activation.specs.Inner.{pair_of, PairsWithin};
 ghost use Rattle.dots_activation.specs.Blocks.{SmallSums};
-ghost use Rattle.dots_whole.specs.Inner.{FiveBits, productAt, pairsWeighed, laneAt, LanesWithin};
-ghost use Rattle.dots_whole.specs.Sums.{weighedAt, minimumSum};
+ghost use Rattle.dots_whole.specs.Inner.{FiveBits, product_at, pairs_weighed, lane_at, LanesWithin};
+ghost use Rattle.dots_whole.specs.Sums.{weighed_at, minimum_sum};
 
 use layouts::FormatK;
 
@@ -39,8 +39,8 @@ fn weighed(a: i8, s: i32) -> i32
 // The products at places i and 16 + i.
 fn products_at(q: &[u8], x: &[i8], i: usize) -> i16
     requires { FiveBits q.now × (length q.now ≡ 64) × (length x.now ≡ 64) × (i < 48) }
-    ensures { (result ≡ productAt q.now x.now i
-        +ℤ productAt q.now x.now (16 + i)) × Within 7936 result }
+    ensures { (result ≡ product_at q.now x.now i
+        +ℤ product_at q.now x.now (16 + i)) × Within 7936 result }
 {
     two_products(q[i], x[i], q[16 + i], x[16 + i])
 }
@@ -49,8 +49,8 @@ fn products_at(q: &[u8], x: &[i8], i: usize) -> i16
 // which are vectors.
 fn two_sub_blocks(q: &[u8], x: &[i8], p: &mut [i16])
     requires { FiveBits q.now × (length q.now ≡ 64) × (length x.now ≡ 64) × (length p.old ≡ 32) }
-    ensures { (p.new ≡ table (pair_of (productAt q.now x.now)) 32)
-        × ((i : ℕ) → i < 32 → Within 7936 (pair_of (productAt q.now x.now) i)) }
+    ensures { (p.new ≡ table (pair_of (product_at q.now x.now)) 32)
+        × ((i : ℕ) → i < 32 → Within 7936 (pair_of (product_at q.now x.now) i)) }
 {
     for l in 0..16usize {
         p[l] = products_at(q, x, l);
@@ -63,7 +63,7 @@ fn two_sub_blocks(q: &[u8], x: &[i8], p: &mut [i16])
 // has.
 pub fn products(q: &[u8], x: &[i8]) -> [i16; 128]
     requires { FiveBits q.now × (length q.now ≡ 256) × (length x.now ≡ 256) }
-    ensures { (result ≡ table (pair_of (productAt q.now x.now)) 128) × PairsWithin 7936 result }
+    ensures { (result ≡ table (pair_of (product_at q.now x.now)) 128) × PairsWithin 7936 result }
 {
     let mut p = [0i16; 128];
     for g in 0..q.len() / 64 {
@@ -88,7 +88,7 @@ fn weighed_pairs(scale: u8, x: i16, y: i16) -> i32
 // every sub-block. No sub-block is summed by itself: that would be a reduction each.
 fn lanes_of(w: &[u8], p: &[i16; 128]) -> [i32; 8]
     requires { (16 ≤ length w.now) × PairsWithin 7936 p.now }
-    ensures { (result ≡ table (laneAt w.now p.now) 8) × LanesWithin 7999488 result }
+    ensures { (result ≡ table (lane_at w.now p.now) 8) × LanesWithin 7999488 result }
 {
     let mut lanes = [0i32; 8];
     for j in 0..8usize {
@@ -105,7 +105,7 @@ fn lanes_of(w: &[u8], p: &[i16; 128]) -> [i32; 8]
 // The sum of the eight lanes.
 fn sum_of_lanes(lanes: &[i32; 8]) -> i32
     requires { LanesWithin 7999488 lanes.now }
-    ensures { result ≡ sumℤ (elem lanes.now) 8 }
+    ensures { result ≡ sum_ℤ (elem lanes.now) 8 }
 {
     let mut a: i32 = 0;
     for l in 0..8usize {
@@ -117,7 +117,7 @@ fn sum_of_lanes(lanes: &[i32; 8]) -> i32
 // The products of run e.
 fn run(q: &[i8; 256], x: &[i8], e: usize) -> i32
     requires { (length x.now ≡ 256) × (e < 16) }
-    ensures { (result ≡ sumℤ (λ l. elem q.now (16 * e + l) *ℤ elem x.now (16 * e + l)) 16)
+    ensures { (result ≡ sum_ℤ (λ l. elem q.now (16 * e + l) *ℤ elem x.now (16 * e + l)) 16)
         × Within 1044480 result }
 {
     let from = 16 * e;
@@ -131,7 +131,7 @@ fn run(q: &[i8; 256], x: &[i8], e: usize) -> i32
 // The whole-number sum over all places of a block with minimums, of its products in pairs: a scale for each sub-block.
 pub fn sum_of_products(w: &[u8], p: &[i16; 128]) -> i32
     requires { (16 ≤ length w.now) × PairsWithin 7936 p.now }
-    ensures { result ≡ pairsWeighed w.now p.now }
+    ensures { result ≡ pairs_weighed w.now p.now }
 {
     let lanes = lanes_of(w, p);
     sum_of_lanes(&lanes)
@@ -140,7 +140,7 @@ pub fn sum_of_products(w: &[u8], p: &[i16; 128]) -> i32
 // That of a Q6_K block, whose quants are q: a scale for each run.
 pub fn sum_by_runs(w: &[u8], q: &[i8; 256], x: &[i8]) -> i32
     requires { (length w.now ≡ 210) × (length x.now ≡ 256) }
-    ensures { result ≡ sumℤ (weighedAt FormatK.Q6K w.now (elem q.now) x.now) 256 }
+    ensures { result ≡ sum_ℤ (weighed_at FormatK.Q6K w.now (elem q.now) x.now) 256 }
 {
     let mut a: i32 = 0;
     for e in 0..16usize {
@@ -152,7 +152,7 @@ pub fn sum_by_runs(w: &[u8], q: &[i8; 256], x: &[i8]) -> i32
 // The minimums times the activation block's sums, all eight.
 pub fn minimum_sum(w: &[u8], sums: &[i32]) -> i32
     requires { (16 ≤ length w.now) × (length sums.now ≡ 8) × SmallSums sums.now }
-    ensures { result ≡ minimumSum w.now sums.now }
+    ensures { result ≡ minimum_sum w.now sums.now }
 {
     let mut m: i32 = 0;
     for j in 0..8usize {

@@ -1,9 +1,9 @@
 // Activation blocks, and the integer dots over them.
 ghost use Rattle.std.specs.Prelude.{◌≡◌};
-ghost use Rattle.dots_activation.specs.Blocks.{blockIn, blockSays};
-ghost use Rattle.dots_integer.specs.Dots.{blockDotSays};
-ghost use Rattle.dots_integer_row.specs.Rows.{integerSays};
-ghost use Rattle.c_answers.specs.Answers.{laidOut, laidOutBlocks};
+ghost use Rattle.dots_activation.specs.Blocks.{block_in, block_says};
+ghost use Rattle.dots_integer.specs.Dots.{block_dot_says};
+ghost use Rattle.dots_integer_row.specs.Rows.{integer_says};
+ghost use Rattle.c_answers.specs.Answers.{laid_out, laid_out_blocks};
 
 use c_answers::{lay_out_and_blocks, lay_out_block};
 use layouts::FormatK;
@@ -17,9 +17,9 @@ pub extern "C" fn jambharrow_quantize_block_q8(
     bsums: &mut [i32; 8],
     count: &mut usize,
 ) -> u32
-    ensures { (result, blockIn d.new qs.new bsums.new count.new)
-        ≡ laidOut (blockSays x.now)
-        (blockIn d.old qs.old bsums.old count.old) }
+    ensures { (result, block_in d.new qs.new bsums.new count.new)
+        ≡ laid_out (block_says x.now)
+        (block_in d.old qs.old bsums.old count.old) }
 {
     lay_out_block(dots_activation::quantize_block_q8(x), d, qs, bsums, count)
 }
@@ -37,8 +37,8 @@ pub extern "C" fn jambharrow_dot_q4k_q8_block(
     blocks: &mut [usize; 2],
 ) -> u32
     ensures { (result, (value.new, blocks.new))
-        ≡ laidOutBlocks (blockDotSays FormatK.Q4K w.now
-        (blockIn d qs.now bsums.now count) n)
+        ≡ laid_out_blocks (block_dot_says FormatK.Q4K w.now
+        (block_in d qs.now bsums.now count) n)
         value.old blocks.old }
 {
     lay_out_and_blocks(
@@ -61,8 +61,8 @@ pub extern "C" fn jambharrow_dot_q5k_q8_block(
     blocks: &mut [usize; 2],
 ) -> u32
     ensures { (result, (value.new, blocks.new))
-        ≡ laidOutBlocks (blockDotSays FormatK.Q5K w.now
-        (blockIn d qs.now bsums.now count) n)
+        ≡ laid_out_blocks (block_dot_says FormatK.Q5K w.now
+        (block_in d qs.now bsums.now count) n)
         value.old blocks.old }
 {
     lay_out_and_blocks(
@@ -85,8 +85,8 @@ pub extern "C" fn jambharrow_dot_q6k_q8_block(
     blocks: &mut [usize; 2],
 ) -> u32
     ensures { (result, (value.new, blocks.new))
-        ≡ laidOutBlocks (blockDotSays FormatK.Q6K w.now
-        (blockIn d qs.now bsums.now count) n)
+        ≡ laid_out_blocks (block_dot_says FormatK.Q6K w.now
+        (block_in d qs.now bsums.now count) n)
         value.old blocks.old }
 {
     lay_out_and_blocks(
@@ -106,7 +106,7 @@ pub extern "C" fn jambharrow_integer_dot_q4k(
     blocks: &mut [usize; 2],
 ) -> u32
     ensures { (result, (value.new, blocks.new))
-        ≡ laidOutBlocks (integerSays FormatK.Q4K x.now w.now n)
+        ≡ laid_out_blocks (integer_says FormatK.Q4K x.now w.now n)
         value.old blocks.old }
 {
     lay_out_and_blocks(dots_integer_row::integer_dot_q4k(x, w, n), value, blocks)
@@ -122,7 +122,7 @@ pub extern "C" fn jambharrow_integer_dot_q5k(
     blocks: &mut [usize; 2],
 ) -> u32
     ensures { (result, (value.new, blocks.new))
-        ≡ laidOutBlocks (integerSays FormatK.Q5K x.now w.now n)
+        ≡ laid_out_blocks (integer_says FormatK.Q5K x.now w.now n)
         value.old blocks.old }
 {
     lay_out_and_blocks(dots_integer_row::integer_dot_q5k(x, w, n), value, blocks)

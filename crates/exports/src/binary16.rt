@@ -2,7 +2,7 @@
 ghost use Rattle.std.specs.Prelude.{◌≡◌};
 ghost use Rattle.halves.specs.Binary16.{widened};
 ghost use Rattle.halves.specs.How.{narrowing};
-ghost use Rattle.c_answers.specs.Lost.{numberedHow};
+ghost use Rattle.c_answers.specs.Lost.{numbered_how};
 
 use c_answers::number_of_how;
 
@@ -17,7 +17,7 @@ pub extern "C" fn jambharrow_f16_to_f32(half: u16) -> f32
 // `halves::f32_to_f16`, for C.
 #[unsafe(no_mangle)]
 pub extern "C" fn jambharrow_f32_to_f16(bits: u32, how: &mut u32) -> u16
-    ensures { (result, how.new) ≡ numberedHow (narrowing bits) }
+    ensures { (result, how.new) ≡ numbered_how (narrowing bits) }
 {
     let made = halves::f32_to_f16(bits);
     let fared = made.how;

@@ -1,6 +1,6 @@
 // The converters between the two orders of Q4_0.
 ghost use Rattle.std.specs.Prelude.{◌≡◌};
-ghost use Rattle.converters.specs.Says.{convertSays};
+ghost use Rattle.converters.specs.Says.{convert_says};
 ghost use Rattle.c_answers.specs.Answers.{numbered};
 
 use c_answers::number_of;
@@ -10,7 +10,7 @@ use converters::Direction;
 #[unsafe(no_mangle)]
 pub extern "C" fn jambharrow_q4_0_to_ggml(bytes: &[u8], out: &mut [u8]) -> u32
     ensures { (result, out.new)
-        ≡ numbered (convertSays Direction.ToGgml bytes.now out.old) }
+        ≡ numbered (convert_says Direction.ToGgml bytes.now out.old) }
 {
     number_of(converters::q4_0_to_ggml(bytes, out))
 }
@@ -19,7 +19,7 @@ pub extern "C" fn jambharrow_q4_0_to_ggml(bytes: &[u8], out: &mut [u8]) -> u32
 #[unsafe(no_mangle)]
 pub extern "C" fn jambharrow_q4_0_from_ggml(bytes: &[u8], out: &mut [u8]) -> u32
     ensures { (result, out.new)
-        ≡ numbered (convertSays Direction.FromGgml bytes.now out.old) }
+        ≡ numbered (convert_says Direction.FromGgml bytes.now out.old) }
 {
     number_of(converters::q4_0_from_ggml(bytes, out))
 }

@@ -1,6 +1,6 @@
 // The block decoders.
 ghost use Rattle.std.specs.Prelude.{◌≡◌};
-ghost use Rattle.decoders.specs.Says.{dequantizeSays};
+ghost use Rattle.decoders.specs.Says.{dequantize_says};
 ghost use Rattle.c_answers.specs.Answers.{numbered};
 
 use c_answers::number_of;
@@ -10,7 +10,7 @@ use layouts::{Format, Format32, FormatK};
 #[unsafe(no_mangle)]
 pub extern "C" fn jambharrow_dequantize_q4_0(bytes: &[u8], out: &mut [f32]) -> u32
     ensures { (result, out.new)
-        ≡ numbered (dequantizeSays (Format.Of32 Format32.Q40) bytes.now out.old) }
+        ≡ numbered (dequantize_says (Format.Of32 Format32.Q40) bytes.now out.old) }
 {
     number_of(decoders::dequantize_q4_0(bytes, out))
 }
@@ -19,7 +19,7 @@ pub extern "C" fn jambharrow_dequantize_q4_0(bytes: &[u8], out: &mut [f32]) -> u
 #[unsafe(no_mangle)]
 pub extern "C" fn jambharrow_dequantize_q4_0_ggml(bytes: &[u8], out: &mut [f32]) -> u32
     ensures { (result, out.new)
-        ≡ numbered (dequantizeSays (Format.Of32 Format32.Q40Ggml) bytes.now out.old) }
+        ≡ numbered (dequantize_says (Format.Of32 Format32.Q40Ggml) bytes.now out.old) }
 {
     number_of(decoders::dequantize_q4_0_ggml(bytes, out))
 }
@@ -28,7 +28,7 @@ pub extern "C" fn jambharrow_dequantize_q4_0_ggml(bytes: &[u8], out: &mut [f32])
 #[unsafe(no_mangle)]
 pub extern "C" fn jambharrow_dequantize_q5_0(bytes: &[u8], out: &mut [f32]) -> u32
     ensures { (result, out.new)
-        ≡ numbered (dequantizeSays (Format.Of32 Format32.Q50) bytes.now out.old) }
+        ≡ numbered (dequantize_says (Format.Of32 Format32.Q50) bytes.now out.old) }
 {
     number_of(decoders::dequantize_q5_0(bytes, out))
 }
@@ -37,7 +37,7 @@ pub extern "C" fn jambharrow_dequantize_q5_0(bytes: &[u8], out: &mut [f32]) -> u
 #[unsafe(no_mangle)]
 pub extern "C" fn jambharrow_dequantize_q8_0(bytes: &[u8], out: &mut [f32]) -> u32
     ensures { (result, out.new)
-        ≡ numbered (dequantizeSays (Format.Of32 Format32.Q80) bytes.now out.old) }
+        ≡ numbered (dequantize_says (Format.Of32 Format32.Q80) bytes.now out.old) }
 {
     number_of(decoders::dequantize_q8_0(bytes, out))
 }
@@ -46,7 +46,7 @@ pub extern "C" fn jambharrow_dequantize_q8_0(bytes: &[u8], out: &mut [f32]) -> u
 #[unsafe(no_mangle)]
 pub extern "C" fn jambharrow_dequantize_iq4_nl(bytes: &[u8], out: &mut [f32]) -> u32
     ensures { (result, out.new)
-        ≡ numbered (dequantizeSays (Format.Of32 Format32.Iq4Nl) bytes.now out.old) }
+        ≡ numbered (dequantize_says (Format.Of32 Format32.Iq4Nl) bytes.now out.old) }
 {
     number_of(decoders::dequantize_iq4_nl(bytes, out))
 }
@@ -55,7 +55,7 @@ pub extern "C" fn jambharrow_dequantize_iq4_nl(bytes: &[u8], out: &mut [f32]) ->
 #[unsafe(no_mangle)]
 pub extern "C" fn jambharrow_dequantize_q4_k(bytes: &[u8], out: &mut [f32]) -> u32
     ensures { (result, out.new)
-        ≡ numbered (dequantizeSays (Format.OfK FormatK.Q4K) bytes.now out.old) }
+        ≡ numbered (dequantize_says (Format.OfK FormatK.Q4K) bytes.now out.old) }
 {
     number_of(decoders::dequantize_q4_k(bytes, out))
 }
@@ -64,7 +64,7 @@ pub extern "C" fn jambharrow_dequantize_q4_k(bytes: &[u8], out: &mut [f32]) -> u
 #[unsafe(no_mangle)]
 pub extern "C" fn jambharrow_dequantize_q5_k(bytes: &[u8], out: &mut [f32]) -> u32
     ensures { (result, out.new)
-        ≡ numbered (dequantizeSays (Format.OfK FormatK.Q5K) bytes.now out.old) }
+        ≡ numbered (dequantize_says (Format.OfK FormatK.Q5K) bytes.now out.old) }
 {
     number_of(decoders::dequantize_q5_k(bytes, out))
 }
@@ -73,7 +73,7 @@ pub extern "C" fn jambharrow_dequantize_q5_k(bytes: &[u8], out: &mut [f32]) -> u
 #[unsafe(no_mangle)]
 pub extern "C" fn jambharrow_dequantize_q6_k(bytes: &[u8], out: &mut [f32]) -> u32
     ensures { (result, out.new)
-        ≡ numbered (dequantizeSays (Format.OfK FormatK.Q6K) bytes.now out.old) }
+        ≡ numbered (dequantize_says (Format.OfK FormatK.Q6K) bytes.now out.old) }
 {
     number_of(decoders::dequantize_q6_k(bytes, out))
 }

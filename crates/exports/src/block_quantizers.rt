@@ -1,8 +1,8 @@
 // The block quantizers.
 ghost use Rattle.std.specs.Prelude.{◌≡◌};
-ghost use Rattle.quantizers.specs.Says.{quantizeSays, quantizeGivenSays};
+ghost use Rattle.quantizers.specs.Says.{quantize_says, quantize_given_says};
 ghost use Rattle.c_answers.specs.Answers.{numbered};
-ghost use Rattle.c_answers.specs.Lost.{numberedLost};
+ghost use Rattle.c_answers.specs.Lost.{numbered_lost};
 
 use c_answers::{number_and_lost, number_of};
 use quantizers::Target;
@@ -11,7 +11,7 @@ use quantizers::Target;
 #[unsafe(no_mangle)]
 pub extern "C" fn jambharrow_quantize_q4_0(x: &[f32], out: &mut [u8], lost: &mut [usize; 2]) -> u32
     ensures { (result, (out.new, lost.new))
-        ≡ numberedLost (quantizeSays Target.Q40 x.now out.old) lost.old }
+        ≡ numbered_lost (quantize_says Target.Q40 x.now out.old) lost.old }
 {
     number_and_lost(quantizers::quantize_q4_0(x, out), lost)
 }
@@ -24,7 +24,7 @@ pub extern "C" fn jambharrow_quantize_q4_0_ggml(
     lost: &mut [usize; 2],
 ) -> u32
     ensures { (result, (out.new, lost.new))
-        ≡ numberedLost (quantizeSays Target.Q40Ggml x.now out.old) lost.old }
+        ≡ numbered_lost (quantize_says Target.Q40Ggml x.now out.old) lost.old }
 {
     number_and_lost(quantizers::quantize_q4_0_ggml(x, out), lost)
 }
@@ -33,7 +33,7 @@ pub extern "C" fn jambharrow_quantize_q4_0_ggml(
 #[unsafe(no_mangle)]
 pub extern "C" fn jambharrow_quantize_q8_0(x: &[f32], out: &mut [u8], lost: &mut [usize; 2]) -> u32
     ensures { (result, (out.new, lost.new))
-        ≡ numberedLost (quantizeSays Target.Q80 x.now out.old) lost.old }
+        ≡ numbered_lost (quantize_says Target.Q80 x.now out.old) lost.old }
 {
     number_and_lost(quantizers::quantize_q8_0(x, out), lost)
 }
@@ -42,7 +42,7 @@ pub extern "C" fn jambharrow_quantize_q8_0(x: &[f32], out: &mut [u8], lost: &mut
 #[unsafe(no_mangle)]
 pub extern "C" fn jambharrow_quantize_iq4_nl(x: &[f32], scale: u16, out: &mut [u8]) -> u32
     ensures { (result, out.new)
-        ≡ numbered (quantizeGivenSays scale x.now out.old) }
+        ≡ numbered (quantize_given_says scale x.now out.old) }
 {
     number_of(quantizers::quantize_iq4_nl(x, scale, out))
 }

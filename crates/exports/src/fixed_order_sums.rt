@@ -1,9 +1,9 @@
 // Fixed-order sums.
 ghost use Rattle.std.specs.Prelude.{◌≡◌};
 ghost use Rattle.sums_tree.specs.Tree.{combined};
-ghost use Rattle.sums_lanes.specs.Says.{chunkSays};
-ghost use Rattle.sums.specs.Says.{dotSays, sumSays};
-ghost use Rattle.c_answers.specs.Answers.{laidOut};
+ghost use Rattle.sums_lanes.specs.Says.{chunk_says};
+ghost use Rattle.sums.specs.Says.{dot_says, sum_says};
+ghost use Rattle.c_answers.specs.Answers.{laid_out};
 
 use c_answers::lay_out;
 
@@ -11,7 +11,7 @@ use c_answers::lay_out;
 #[unsafe(no_mangle)]
 pub extern "C" fn jambharrow_canonical_chunk(x: &[f32], w: &[f32], value: &mut f32) -> u32
     ensures { (result, value.new)
-        ≡ laidOut (chunkSays x.now w.now) value.old }
+        ≡ laid_out (chunk_says x.now w.now) value.old }
 {
     lay_out(sums_lanes::canonical_chunk(x, w), value)
 }
@@ -33,7 +33,7 @@ pub extern "C" fn jambharrow_canonical_dot_pub(
     value: &mut f32,
 ) -> u32
     ensures { (result, value.new)
-        ≡ laidOut (dotSays x.now w.now n) value.old }
+        ≡ laid_out (dot_says x.now w.now n) value.old }
 {
     lay_out(sums::canonical_dot_pub(x, w, n), value)
 }
@@ -41,7 +41,7 @@ pub extern "C" fn jambharrow_canonical_dot_pub(
 // `sums::canonical_sum_pub`, for C.
 #[unsafe(no_mangle)]
 pub extern "C" fn jambharrow_canonical_sum_pub(x: &[f32], n: usize, value: &mut f32) -> u32
-    ensures { (result, value.new) ≡ laidOut (sumSays x.now n) value.old }
+    ensures { (result, value.new) ≡ laid_out (sum_says x.now n) value.old }
 {
     lay_out(sums::canonical_sum_pub(x, n), value)
 }

@@ -1,7 +1,7 @@
 // The fused dots.
 ghost use Rattle.std.specs.Prelude.{◌≡◌};
-ghost use Rattle.dots_fused.specs.Says.{fusedSays};
-ghost use Rattle.c_answers.specs.Answers.{laidOutBlocks};
+ghost use Rattle.dots_fused.specs.Says.{fused_says};
+ghost use Rattle.c_answers.specs.Answers.{laid_out_blocks};
 
 use c_answers::lay_out_and_blocks;
 use layouts::FormatK;
@@ -16,7 +16,7 @@ pub extern "C" fn jambharrow_canonical_dot_q4k_fused(
     blocks: &mut [usize; 2],
 ) -> u32
     ensures { (result, (value.new, blocks.new))
-        ≡ laidOutBlocks (fusedSays FormatK.Q4K x.now w.now n) value.old
+        ≡ laid_out_blocks (fused_says FormatK.Q4K x.now w.now n) value.old
         blocks.old }
 {
     lay_out_and_blocks(dots_fused::canonical_dot_q4k_fused(x, w, n), value, blocks)
@@ -32,7 +32,7 @@ pub extern "C" fn jambharrow_canonical_dot_q5k_fused(
     blocks: &mut [usize; 2],
 ) -> u32
     ensures { (result, (value.new, blocks.new))
-        ≡ laidOutBlocks (fusedSays FormatK.Q5K x.now w.now n) value.old
+        ≡ laid_out_blocks (fused_says FormatK.Q5K x.now w.now n) value.old
         blocks.old }
 {
     lay_out_and_blocks(dots_fused::canonical_dot_q5k_fused(x, w, n), value, blocks)
@@ -48,7 +48,7 @@ pub extern "C" fn jambharrow_q6k_fused_f32_dot(
     blocks: &mut [usize; 2],
 ) -> u32
     ensures { (result, (value.new, blocks.new))
-        ≡ laidOutBlocks (fusedSays FormatK.Q6K x.now w.now n) value.old
+        ≡ laid_out_blocks (fused_says FormatK.Q6K x.now w.now n) value.old
         blocks.old }
 {
     lay_out_and_blocks(dots_fused::q6k_fused_f32_dot(x, w, n), value, blocks)

@@ -1,10 +1,10 @@
 // The layers.
 ghost use Rattle.std.specs.Prelude.{◌≡◌};
 ghost use Rattle.layers_shape.specs.Shapes.{shape};
-ghost use Rattle.layers_fused.specs.Says.{fusedLayerSays};
-ghost use Rattle.layers_cpu.specs.Says.{cpuSays};
-ghost use Rattle.layers_integer.specs.Says.{integerLayerSays};
-ghost use Rattle.c_answers.specs.Answers.{numbered, numberedBlocks};
+ghost use Rattle.layers_fused.specs.Says.{fused_layer_says};
+ghost use Rattle.layers_cpu.specs.Says.{cpu_says};
+ghost use Rattle.layers_integer.specs.Says.{integer_layer_says};
+ghost use Rattle.c_answers.specs.Answers.{numbered, numbered_blocks};
 
 use c_answers::{number_and_blocks, number_of};
 use dots_kept_row::Meeting;
@@ -22,7 +22,7 @@ pub extern "C" fn jambharrow_linear_q4_k_fused(
     blocks: &mut [usize; 2],
 ) -> u32
     ensures { (result, (y.new, blocks.new))
-        ≡ numberedBlocks (fusedLayerSays FormatK.Q4K (shape batch in_feat out_feat) x.now w.now
+        ≡ numbered_blocks (fused_layer_says FormatK.Q4K (shape batch in_feat out_feat) x.now w.now
         y.old) blocks.old }
 {
     number_and_blocks(
@@ -43,7 +43,7 @@ pub extern "C" fn jambharrow_linear_q5_k_fused(
     blocks: &mut [usize; 2],
 ) -> u32
     ensures { (result, (y.new, blocks.new))
-        ≡ numberedBlocks (fusedLayerSays FormatK.Q5K (shape batch in_feat out_feat) x.now w.now
+        ≡ numbered_blocks (fused_layer_says FormatK.Q5K (shape batch in_feat out_feat) x.now w.now
         y.old) blocks.old }
 {
     number_and_blocks(
@@ -64,7 +64,7 @@ pub extern "C" fn jambharrow_linear_q6_k_fused(
     blocks: &mut [usize; 2],
 ) -> u32
     ensures { (result, (y.new, blocks.new))
-        ≡ numberedBlocks (fusedLayerSays FormatK.Q6K (shape batch in_feat out_feat) x.now w.now
+        ≡ numbered_blocks (fused_layer_says FormatK.Q6K (shape batch in_feat out_feat) x.now w.now
         y.old) blocks.old }
 {
     number_and_blocks(
@@ -85,7 +85,7 @@ pub extern "C" fn jambharrow_linear_q4_k_integer(
     blocks: &mut [usize; 2],
 ) -> u32
     ensures { (result, (y.new, blocks.new))
-        ≡ numberedBlocks (integerLayerSays FormatK.Q4K Meeting.Tree (shape batch in_feat out_feat) x.now
+        ≡ numbered_blocks (integer_layer_says FormatK.Q4K Meeting.Tree (shape batch in_feat out_feat) x.now
         w.now y.old) blocks.old }
 {
     number_and_blocks(
@@ -106,7 +106,7 @@ pub extern "C" fn jambharrow_linear_q5_k_integer(
     blocks: &mut [usize; 2],
 ) -> u32
     ensures { (result, (y.new, blocks.new))
-        ≡ numberedBlocks (integerLayerSays FormatK.Q5K Meeting.Tree (shape batch in_feat out_feat) x.now
+        ≡ numbered_blocks (integer_layer_says FormatK.Q5K Meeting.Tree (shape batch in_feat out_feat) x.now
         w.now y.old) blocks.old }
 {
     number_and_blocks(
@@ -127,7 +127,7 @@ pub extern "C" fn jambharrow_linear_q6_k_integer(
     blocks: &mut [usize; 2],
 ) -> u32
     ensures { (result, (y.new, blocks.new))
-        ≡ numberedBlocks (integerLayerSays FormatK.Q6K Meeting.Tree (shape batch in_feat out_feat) x.now
+        ≡ numbered_blocks (integer_layer_says FormatK.Q6K Meeting.Tree (shape batch in_feat out_feat) x.now
         w.now y.old) blocks.old }
 {
     number_and_blocks(
@@ -148,7 +148,7 @@ pub extern "C" fn jambharrow_linear_q4_k_integer_rs(
     blocks: &mut [usize; 2],
 ) -> u32
     ensures { (result, (y.new, blocks.new))
-        ≡ numberedBlocks (integerLayerSays FormatK.Q4K Meeting.Running (shape batch in_feat out_feat) x.now
+        ≡ numbered_blocks (integer_layer_says FormatK.Q4K Meeting.Running (shape batch in_feat out_feat) x.now
         w.now y.old) blocks.old }
 {
     number_and_blocks(
@@ -169,7 +169,7 @@ pub extern "C" fn jambharrow_linear_q5_k_integer_rs(
     blocks: &mut [usize; 2],
 ) -> u32
     ensures { (result, (y.new, blocks.new))
-        ≡ numberedBlocks (integerLayerSays FormatK.Q5K Meeting.Running (shape batch in_feat out_feat) x.now
+        ≡ numbered_blocks (integer_layer_says FormatK.Q5K Meeting.Running (shape batch in_feat out_feat) x.now
         w.now y.old) blocks.old }
 {
     number_and_blocks(
@@ -190,7 +190,7 @@ pub extern "C" fn jambharrow_linear_q6_k_integer_rs(
     blocks: &mut [usize; 2],
 ) -> u32
     ensures { (result, (y.new, blocks.new))
-        ≡ numberedBlocks (integerLayerSays FormatK.Q6K Meeting.Running (shape batch in_feat out_feat) x.now
+        ≡ numbered_blocks (integer_layer_says FormatK.Q6K Meeting.Running (shape batch in_feat out_feat) x.now
         w.now y.old) blocks.old }
 {
     number_and_blocks(
@@ -211,7 +211,7 @@ pub extern "C" fn jambharrow_linear_q4_k_cpu(
     out_feat: usize,
 ) -> u32
     ensures { (result, (y.new, scratch.new))
-        ≡ numbered (cpuSays (Format.OfK FormatK.Q4K) (shape batch in_feat out_feat) x.now
+        ≡ numbered (cpu_says (Format.OfK FormatK.Q4K) (shape batch in_feat out_feat) x.now
         w.now y.old scratch.old) }
 {
     number_of(layers_cpu::linear_q4_k_cpu(x, w, y, scratch, batch, in_feat, out_feat))
@@ -229,7 +229,7 @@ pub extern "C" fn jambharrow_linear_q6_k_cpu(
     out_feat: usize,
 ) -> u32
     ensures { (result, (y.new, scratch.new))
-        ≡ numbered (cpuSays (Format.OfK FormatK.Q6K) (shape batch in_feat out_feat) x.now
+        ≡ numbered (cpu_says (Format.OfK FormatK.Q6K) (shape batch in_feat out_feat) x.now
         w.now y.old scratch.old) }
 {
     number_of(layers_cpu::linear_q6_k_cpu(x, w, y, scratch, batch, in_feat, out_feat))
@@ -247,7 +247,7 @@ pub extern "C" fn jambharrow_linear_q4_0_cpu(
     out_feat: usize,
 ) -> u32
     ensures { (result, (y.new, scratch.new))
-        ≡ numbered (cpuSays (Format.Of32 Format32.Q40) (shape batch in_feat out_feat) x.now
+        ≡ numbered (cpu_says (Format.Of32 Format32.Q40) (shape batch in_feat out_feat) x.now
         w.now y.old scratch.old) }
 {
     number_of(layers_cpu::linear_q4_0_cpu(x, w, y, scratch, batch, in_feat, out_feat))
@@ -265,7 +265,7 @@ pub extern "C" fn jambharrow_linear_q4_0_ggml_cpu(
     out_feat: usize,
 ) -> u32
     ensures { (result, (y.new, scratch.new))
-        ≡ numbered (cpuSays (Format.Of32 Format32.Q40Ggml) (shape batch in_feat out_feat) x.now
+        ≡ numbered (cpu_says (Format.Of32 Format32.Q40Ggml) (shape batch in_feat out_feat) x.now
         w.now y.old scratch.old) }
 {
     number_of(layers_cpu::linear_q4_0_ggml_cpu(x, w, y, scratch, batch, in_feat, out_feat))
@@ -283,7 +283,7 @@ pub extern "C" fn jambharrow_linear_iq4_nl_cpu(
     out_feat: usize,
 ) -> u32
     ensures { (result, (y.new, scratch.new))
-        ≡ numbered (cpuSays (Format.Of32 Format32.Iq4Nl) (shape batch in_feat out_feat) x.now
+        ≡ numbered (cpu_says (Format.Of32 Format32.Iq4Nl) (shape batch in_feat out_feat) x.now
         w.now y.old scratch.old) }
 {
     number_of(layers_cpu::linear_iq4_nl_cpu(x, w, y, scratch, batch, in_feat, out_feat))

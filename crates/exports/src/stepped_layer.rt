@@ -1,10 +1,10 @@
 // The stepped layer.
 ghost use Rattle.std.specs.Prelude.{◌≡◌};
-ghost use Rattle.stepped_shape.specs.Layer.{layerOf, memory};
-ghost use Rattle.stepped_pieces.specs.Pieces.{pieceSays};
+ghost use Rattle.stepped_shape.specs.Layer.{layer_of, memory};
+ghost use Rattle.stepped_pieces.specs.Pieces.{piece_says};
 ghost use Rattle.stepped_shape.specs.Progress.{ran};
-ghost use Rattle.stepped.specs.Says.{openSays, runSays, closeSays};
-ghost use Rattle.c_answers.specs.Answers.{numbered, numberedBlocks, laidOutBeside};
+ghost use Rattle.stepped.specs.Says.{open_says, run_says, close_says};
+ghost use Rattle.c_answers.specs.Answers.{numbered, numbered_blocks, laid_out_beside};
 
 use c_answers::{lay_out_counts, number_and_blocks, number_of};
 use stepped_shape::Layer;
@@ -19,7 +19,7 @@ pub extern "C" fn jambharrow_open(
     marks: &mut [u8],
 ) -> u32
     ensures { (result, memory slots.new marks.new)
-        ≡ numbered (openSays (layerOf format in_feat out_feat)
+        ≡ numbered (open_says (layer_of format in_feat out_feat)
         (memory slots.old marks.old)) }
 {
     let layer = Layer {
@@ -45,7 +45,7 @@ pub extern "C" fn jambharrow_piece(
     blocks: &mut [usize; 2],
 ) -> u32
     ensures { (result, (memory slots.new marks.new, blocks.new))
-        ≡ numberedBlocks (pieceSays (layerOf format in_feat out_feat) w.now x.now row chunk
+        ≡ numbered_blocks (piece_says (layer_of format in_feat out_feat) w.now x.now row chunk
         (memory slots.old marks.old)) blocks.old }
 {
     let layer = Layer {
@@ -82,8 +82,8 @@ pub extern "C" fn jambharrow_run(
         blocks.new,
       ),
     )
-        ≡ laidOutBeside
-        (runSays (layerOf format in_feat out_feat) w.now x.now budget
+        ≡ laid_out_beside
+        (run_says (layer_of format in_feat out_feat) w.now x.now budget
         (memory slots.old marks.old))
         (ran done.old left.old) blocks.old }
 {
@@ -112,7 +112,7 @@ pub extern "C" fn jambharrow_close(
     y: &mut [f32],
 ) -> u32
     ensures { (result, y.new)
-        ≡ numbered (closeSays (layerOf format in_feat out_feat) row
+        ≡ numbered (close_says (layer_of format in_feat out_feat) row
         (memory slots.now marks.now) y.old) }
 {
     let layer = Layer {

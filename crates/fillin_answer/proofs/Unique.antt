@@ -11,25 +11,25 @@ use Rattle.fillin_answer.proofs.state.start.Reads as start
 use Rattle.fillin_answer.proofs.answers.answer.Reads as answer
 
 -- a reply is its fields
-one-reply : (x y : Reply) → x.state ≡ y.state → x.length ≡ y.length → x.over ≡ y.over → x ≡ y
-one-reply x y s l o =
+one_reply : (x y : Reply) → x.state ≡ y.state → x.length ≡ y.length → x.over ≡ y.over → x ≡ y
+one_reply x y s l o =
     ap (λ (z : State). reply z x.length x.over) s ∙ ap (λ (n : ℕ). reply y.state n x.over) l ∙ ap (reply y.state y.length) o
   where
     reply : State → ℕ → Bool → Reply
     reply z n b = record { state = z; length = n; over = b }
 
-replied-once : (a : Answer) (x y : Reply) (before p q : List ℕ) → Replied a x before p → Replied a y before q → (x ≡ y) × (p ≡ q)
-replied-once a x y before p q h k =
-    (one-reply x y (same h.same-state k.same-state) (same h.same_length k.same_length) (same h.same_over k.same_over), same h.same_line k.same_line)
+replied_once : (a : Answer) (x y : Reply) (before p q : List ℕ) → Replied a x before p → Replied a y before q → (x ≡ y) × (p ≡ q)
+replied_once a x y before p q h k =
+    (one_reply x y (same h.same_state k.same_state) (same h.same_length k.same_length) (same h.same_over k.same_over), same h.same_line k.same_line)
 
 paired : {a a' b b' : List ℕ} → a ≡ a' → b ≡ b' → ◌≡◌ {A = List ℕ × List ℕ} (a, b) (a', b')
 paired {a = a} {b' = b'} e f = ap (λ (z : List ℕ). (a, z)) f ∙ ap (λ (z : List ℕ). (z, b')) e
 
-pub start-once : OneResult start.Post
-start-once κs a x y s t h k = same h k
+pub start_once : OneResult start.Post
+start_once κs a x y s t h k = same h k
 
-pub answer-once : OneCall {M = List ℕ × List ℕ} answer.Post (λ κs s. (s.1.1.0.now, s.1.1.1.0.now))
-answer-once κs a x y s t h k =
-    let r = replied-once _ x y _ _ _ h.0 k.0 in
+pub answer_once : OneCall {M = List ℕ × List ℕ} answer.Post (λ κs s. (s.1.1.0.now, s.1.1.1.0.now))
+answer_once κs a x y s t h k =
+    let r = replied_once _ x y _ _ _ h.0 k.0 in
     let w = same h.1.0 k.1.0 in
     (r.0, paired w r.1)

@@ -12,6 +12,6 @@ saying says n st = record { line = says; outputs = n; state = st }
 -- what was decided, with the outputs in y, is as the answer says
 pub record Decides (a : Answer) (d : Decided) (y : List Float) : Type 0 where
   pub same_line : d.line ≡ a.says
-  pub same-outputs : take d.outputs y ≡ a.outputs
+  pub same_outputs : take d.outputs y ≡ a.outputs
   pub few : d.outputs ≤ 16
-  pub same-state : d.state ≡ a.state
+  pub same_state : d.state ≡ a.state

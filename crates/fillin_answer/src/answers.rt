@@ -1,11 +1,11 @@
 // The answer to one record: it is decided, and then its line is written.
 ghost use Rattle.std.specs.Prelude.{◌≡◌, ◌+◌, ◌*◌, ◌^◌, ◌≤◌, ◌<◌, ◌++◌, length, take, drop};
-ghost use Rattle.records.specs.Kinds.{mostWeights, weightsIn, readingsIn};
+ghost use Rattle.records.specs.Kinds.{most_weights, weights_in, readings_in};
 ghost use Rattle.fillin_text.specs.Text.{laid};
 ghost use Rattle.fillin_lines.specs.declared.lines.Line.TheVariants as said;
-ghost use Rattle.fillin_window.specs.Windows.{Sound, readingsOf, outputsOf};
-ghost use Rattle.fillin_answer.specs.Kept.{Ready, Carried, withLayer, behind, oneAnswered, oneRefused};
-ghost use Rattle.fillin_answer.specs.Answers.{Replied, windowNumber, answerTo};
+ghost use Rattle.fillin_window.specs.Windows.{Sound, readings_of, outputs_of};
+ghost use Rattle.fillin_answer.specs.Kept.{Ready, Carried, with_layer, behind, one_answered, one_refused};
+ghost use Rattle.fillin_answer.specs.Answers.{Replied, window_number, answer_to};
 ghost use Rattle.fillin_answer.specs.Inner.{saying, Decides};
 
 use crate::state::{Reply, State};
@@ -34,10 +34,10 @@ fn behind_record(mut st: State, size: usize) -> State
 
 // A layer: its weights are kept.
 fn take_layer(st: State, l: Layer, size: usize, payload: &[u8], weights: &mut [u8]) -> Decided
-    requires { (length (weightsIn payload.now) ≤ length weights.old) × (st.offset + size < 2 ^ 64) }
+    requires { (length (weights_in payload.now) ≤ length weights.old) × (st.offset + size < 2 ^ 64) }
     ensures value { result ≡ saying (said.Layer l.format l.in_feat l.out_feat) 0
-        (withLayer l (length (weightsIn payload.now)) (behind size st)) }
-    ensures weights_after { weights.new ≡ laid weights.old 0 (weightsIn payload.now) }
+        (with_layer l (length (weights_in payload.now)) (behind size st)) }
+    ensures weights_after { weights.new ≡ laid weights.old 0 (weights_in payload.now) }
 {
     let mut state = behind_record(st, size);
     state.layer = l;
@@ -56,7 +56,7 @@ fn take_layer(st: State, l: Layer, size: usize, payload: &[u8], weights: &mut [u
 // A window with warm-up readings: it is refused.
 fn refuse_window(st: State, size: usize) -> Decided
     requires { (st.offset + size < 2 ^ 64) × (st.answered + st.refused + 1 < 2 ^ 64) }
-    ensures { result ≡ saying (said.WarmUp (windowNumber st)) 0 (oneRefused (behind size st)) }
+    ensures { result ≡ saying (said.WarmUp (window_number st)) 0 (one_refused (behind size st)) }
 {
     let mut state = behind_record(st, size);
     state.refused += 1;
@@ -84,12 +84,12 @@ fn stop(st: State, why: Refusal) -> Decided
 // A window for the latest layer: its outputs.
 fn answer_window(st: State, size: usize, payload: &[u8], weights: &[u8], y: &mut [f32]) -> Decided
     requires sound { Sound st.layer (length weights.now) × (16 ≤ length y.old)
-        × (length (readingsIn payload.now) ≡ st.layer.in_feat * 4) }
+        × (length (readings_in payload.now) ≡ st.layer.in_feat * 4) }
     requires size_bound { (st.offset + size < 2 ^ 64) × (st.answered + st.refused + 1 < 2 ^ 64) }
-    ensures value { result ≡ saying (said.Window (windowNumber st)) st.layer.out_feat
-        (oneAnswered (behind size st)) }
+    ensures value { result ≡ saying (said.Window (window_number st)) st.layer.out_feat
+        (one_answered (behind size st)) }
     ensures y_after { y.new
-        ≡ outputsOf st.layer weights.now (readingsOf (readingsIn payload.now) st.layer)
+        ≡ outputs_of st.layer weights.now (readings_of (readings_in payload.now) st.layer)
         ++ drop st.layer.out_feat y.old }
 {
     let l = st.layer;
@@ -108,14 +108,14 @@ fn answer_window(st: State, size: usize, payload: &[u8], weights: &[u8], y: &mut
 // What the record that these bytes are is answered with. A layer's weights go to the front of `weights`, and a window's
 // outputs to the front of y.
 fn decide(st: State, record: &[u8], weights: &mut [u8], y: &mut [f32]) -> Decided
-    requires sound { Sound st.layer st.weight_bytes × (mostWeights ≤ length weights.old)
+    requires sound { Sound st.layer st.weight_bytes × (most_weights ≤ length weights.old)
         × (16 ≤ length y.old) }
     requires record_bound { (st.offset + length «record».now < 2 ^ 64) × (st.answered + st.refused + 1 < 2 ^ 64) }
-    ensures decides { Decides (answerTo st (take st.weight_bytes weights.old) «record».now) result
+    ensures decides { Decides (answer_to st (take st.weight_bytes weights.old) «record».now) result
         y.new }
     ensures weights_after { weights.new
         ≡ laid weights.old 0
-        (answerTo st (take st.weight_bytes weights.old) «record».now).weights }
+        (answer_to st (take st.weight_bytes weights.old) «record».now).weights }
 {
     let l = st.layer;
     let size = record.len();
@@ -153,11 +153,11 @@ fn decide(st: State, record: &[u8], weights: &mut [u8], y: &mut [f32]) -> Decide
 // stands at the front of `line`, and the latest layer's weights at the front of `weights`.
 pub fn answer(st: State, record: &[u8], weights: &mut [u8], line: &mut [u8]) -> Reply
     requires { Ready st (length «record».now) (length weights.old) (length line.old) }
-    ensures replied { Replied (answerTo st (take st.weight_bytes weights.old) «record».now) result
+    ensures replied { Replied (answer_to st (take st.weight_bytes weights.old) «record».now) result
         line.old line.new }
     ensures weights_after { weights.new
         ≡ laid weights.old 0
-        (answerTo st (take st.weight_bytes weights.old) «record».now).weights }
+        (answer_to st (take st.weight_bytes weights.old) «record».now).weights }
     ensures carried { Carried st (length «record».now) result.state
         × (result.length ≤ length line.new) }
 {

@@ -1,7 +1,7 @@
 // A line of the transcript: what it says, and its text.
 ghost use Rattle.std.specs.Prelude.{◌≡◌, ◌≤◌, length};
 ghost use Rattle.fillin_text.specs.Text.{laid};
-ghost use Rattle.fillin_lines.specs.Lines.{mostLine, text_of, isLast};
+ghost use Rattle.fillin_lines.specs.Lines.{most_line, text_of, is_last};
 
 use crate::whole::{end_line, layer_line, refused_line, stop_line, window_line};
 use refusals::Refusal;
@@ -33,7 +33,7 @@ pub enum Line {
 
 // Whether nothing is written behind a line.
 pub fn is_last(line: Line) -> bool
-    ensures { result ≡ isLast line }
+    ensures { result ≡ is_last line }
 {
     match line {
         Line::Layer { .. } => false,
@@ -46,9 +46,9 @@ pub fn is_last(line: Line) -> bool
 
 // Writes a line at the front of a buffer; the outputs are a window's. The line's length.
 pub fn write_line(line: Line, outputs: &[f32], buf: &mut [u8]) -> usize
-    requires { (mostLine ≤ length buf.old) × (length outputs.now ≤ 16) }
+    requires { (most_line ≤ length buf.old) × (length outputs.now ≤ 16) }
     ensures buf_after { buf.new ≡ laid buf.old 0 (text_of line outputs.now) }
-    ensures value { (result ≡ length (text_of line outputs.now)) × (result ≤ mostLine) }
+    ensures value { (result ≡ length (text_of line outputs.now)) × (result ≤ most_line) }
 {
     match line {
         Line::Layer {

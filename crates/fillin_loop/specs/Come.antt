@@ -1,16 +1,16 @@
 -- What is answered of the bytes that have come: the lines of their records. Definitions only.
 use Rattle.std.specs.Prelude.{ℕ, zero, suc, ◌+◌, ◌-◌, ◌*◌, ◌^◌, ◌≤◌, ◌<◌, ◌≡◌, Bool, true, false, cond, List, [], ◌++◌, eqb, length, take, drop}
-use Rattle.frames.specs.Frame.{mostRecord}
-use Rattle.frames.specs.Pieces.{nextIn}
-use Rattle.records.specs.Kinds.{mostWeights}
+use Rattle.frames.specs.Frame.{most_record}
+use Rattle.frames.specs.Pieces.{next_in}
+use Rattle.records.specs.Kinds.{most_weights}
 use Rattle.fillin_text.specs.Text.{laid}
 use Rattle.fillin_lines.specs.declared.lines.Line.{Line}
 use Rattle.fillin_lines.specs.declared.lines.Line.TheVariants as line
-use Rattle.fillin_lines.specs.Lines.{mostLine}
+use Rattle.fillin_lines.specs.Lines.{most_line}
 use Rattle.fillin_window.specs.Windows.{Sound}
 use Rattle.fillin_answer.specs.declared.state.State.{State}
-use Rattle.fillin_answer.specs.Answers.{Answer, text, answerTo}
-use Rattle.fillin_transcript.specs.Transcript.{byNext}
+use Rattle.fillin_answer.specs.Answers.{Answer, text, answer_to}
+use Rattle.fillin_transcript.specs.Transcript.{by_next}
 use Rattle.fillin_loop.specs.declared.ending.Ending.{Ending}
 use Rattle.fillin_loop.specs.declared.ending.Ending.TheVariants.{Ended, Stopped}
 use Rattle.fillin_loop.specs.declared.come.Course.{Course}
@@ -18,20 +18,20 @@ use Rattle.fillin_loop.specs.declared.come.Course.TheVariants.{On, More, Over}
 use Rattle.fillin_loop.specs.declared.come.Answered.{Answered}
 
 -- the lines that are written at once, at most
-abbrev pub mostLines : ℕ
-mostLines = 64
+abbrev pub most_lines : ℕ
+most_lines = 64
 
 -- how it goes on after a line, by whether it is the last one, and by its first letter: `e` of `end`, `s` of `stop`
-abbrev pub courseBy : (last : Bool) (letter : ℕ) → Course
-courseBy last letter = cond last (Over (cond (eqb letter 101) Ended Stopped)) On
+abbrev pub course_by : (last : Bool) (letter : ℕ) → Course
+course_by last letter = cond last (Over (cond (eqb letter 101) Ended Stopped)) On
 
 -- the same, by the line
-abbrev pub courseAfter : Line → Course
-courseAfter (line.Layer format inFeat outFeat) = On
-courseAfter (line.Window number) = On
-courseAfter (line.WarmUp number) = On
-courseAfter (line.Stop why offset) = Over Stopped
-courseAfter (line.End answered refused) = Over Ended
+abbrev pub course_after : Line → Course
+course_after (line.Layer format in_feat out_feat) = On
+course_after (line.Window number) = On
+course_after (line.WarmUp number) = On
+course_after (line.Stop why offset) = Over Stopped
+course_after (line.End answered refused) = Over Ended
 
 -- nothing more is answered
 abbrev pub is_over : Course → Bool
@@ -54,19 +54,19 @@ so_far r weights lines =
     record { state = r.state; weights = weights; bytes = r.bytes; lines = take r.text lines; course = r.course }
 
 -- nothing is answered yet
-abbrev pub nothingYet : State → (weights : List ℕ) → SoFar
-nothingYet st weights = record { state = st; weights = weights; bytes = 0; lines = []; course = On }
+abbrev pub nothing_yet : State → (weights : List ℕ) → SoFar
+nothing_yet st weights = record { state = st; weights = weights; bytes = 0; lines = []; course = On }
 
 -- one more record: its line stands behind the others
-abbrev pub oneMore : SoFar → List ℕ → SoFar
-oneMore s bytes =
-    let a = answerTo s.state (take s.state.weight_bytes s.weights) bytes in
+abbrev pub with_one_more : SoFar → List ℕ → SoFar
+with_one_more s bytes =
+    let a = answer_to s.state (take s.state.weight_bytes s.weights) bytes in
     record {
       state = a.state;
       weights = laid s.weights 0 a.weights;
       bytes = s.bytes + length bytes;
       lines = s.lines ++ text a;
-      course = courseAfter a.says;
+      course = course_after a.says;
     }
 
 -- a record of which more has to come
@@ -78,8 +78,8 @@ unfoldable pub answering : (come : List ℕ) (ended : Bool) (most : ℕ) → SoF
 answering come ended zero s = s
 answering come ended (suc most) s =
     let rest = drop s.bytes come in
-    byNext (nextIn rest ended)
-    (λ n. let t = oneMore s (take n rest) in cond (is_over t.course) t (answering come ended most t))
+    by_next (next_in rest ended)
+    (λ n. let t = with_one_more s (take n rest) in cond (is_over t.course) t (answering come ended most t))
     (waiting s)
 
 -- ---- what answering relies on, and where it gets
@@ -87,16 +87,16 @@ answering come ended (suc most) s =
 -- a layer that is held as a layer record left it, and room for weights, lines and counts
 pub record Prepared (st : State) (come weights lines : ℕ) : Type 0 where
   pub sound : Sound st.layer st.weight_bytes
-  pub weights-fit : mostWeights ≤ weights
-  pub lines_fit : mostLines * mostLine ≤ lines
-  pub offset-fits : st.offset + come < 2 ^ 64
-  pub count_fits : st.answered + st.refused + mostLines < 2 ^ 64
+  pub weights_fit : most_weights ≤ weights
+  pub lines_fit : most_lines * most_line ≤ lines
+  pub offset_fits : st.offset + come < 2 ^ 64
+  pub count_fits : st.answered + st.refused + most_lines < 2 ^ 64
 
 -- of so many bytes that came: none is answered twice, and what more has to come for is less than a record
 pub record Reached (before : State) (come lines : ℕ) (r : Answered) : Type 0 where
   pub sound : Sound r.state.layer r.state.weight_bytes
-  pub bytes-in : r.bytes ≤ come
+  pub bytes_in : r.bytes ≤ come
   pub text_in : r.text ≤ lines
-  pub offset-in : r.state.offset ≤ before.offset + r.bytes
-  pub count-in : r.state.answered + r.state.refused ≤ before.answered + before.refused + mostLines
-  pub short : r.course ≡ More → come - r.bytes < mostRecord
+  pub offset_in : r.state.offset ≤ before.offset + r.bytes
+  pub count_in : r.state.answered + r.state.refused ≤ before.answered + before.refused + most_lines
+  pub short : r.course ≡ More → come - r.bytes < most_record

@@ -4,8 +4,8 @@ use Rattle.memory.specs.Lists.{part}
 use Rattle.fillin_loop.specs.declared.input.Unread.{Unread}
 
 -- the bytes themselves
-abbrev pub unreadIn : List ℕ → Unread → List ℕ
-unreadIn buf u = part buf u.from (u.to - u.from)
+abbrev pub unread_in : List ℕ → Unread → List ℕ
+unread_in buf u = part buf u.from (u.to - u.from)
 
 -- their places are places of the buffer
 pub record InBuffer (buf : List ℕ) (u : Unread) : Type 0 where
@@ -15,5 +15,5 @@ pub record InBuffer (buf : List ℕ) (u : Unread) : Type 0 where
 -- after a read: they stand in front of what came, and nothing came where the input has ended
 pub record ReadOn (before : List ℕ) (u : Unread) (after : List ℕ) (r : Unread) : Type 0 where
   pub within : InBuffer after r
-  pub kept : take (length (unreadIn before u)) (unreadIn after r) ≡ unreadIn before u
-  pub nothing-more : r.ended ≡ true → unreadIn after r ≡ unreadIn before u
+  pub kept : take (length (unread_in before u)) (unread_in after r) ≡ unread_in before u
+  pub nothing_more : r.ended ≡ true → unread_in after r ≡ unread_in before u

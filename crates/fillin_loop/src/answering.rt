@@ -1,9 +1,9 @@
 // What has come is answered, its lines are written, and then more is read.
 ghost use Rattle.std.specs.Prelude.{◌*◌, ◌^◌, ◌≤◌, ◌<◌, length};
-ghost use Rattle.frames.specs.Frame.{mostRecord};
-ghost use Rattle.records.specs.Kinds.{mostWeights};
-ghost use Rattle.fillin_lines.specs.Lines.{mostLine};
-ghost use Rattle.fillin_loop.specs.Come.{mostLines};
+ghost use Rattle.frames.specs.Frame.{most_record};
+ghost use Rattle.records.specs.Kinds.{most_weights};
+ghost use Rattle.fillin_lines.specs.Lines.{most_line};
+ghost use Rattle.fillin_loop.specs.Come.{most_lines};
 
 use crate::come;
 use crate::come::{Course, answer_come};
@@ -18,8 +18,8 @@ const MOST_TURNS: u64 = 70_368_744_177_664;
 // Answers records until one ends the transcript, or reading or writing fails. Lines are written before more is read:
 // none is held back while the input is waited for.
 fn answer_records(desk: Desk, buf: &mut [u8], weights: &mut [u8], lines: &mut [u8]) -> Ending
-    requires { (0 < desk.most) × (mostRecord ≤ length buf.old) × (length buf.old ≤ 2 ^ 17)
-        × (mostWeights ≤ length weights.old) × (mostLines * mostLine ≤ length lines.old) }
+    requires { (0 < desk.most) × (most_record ≤ length buf.old) × (length buf.old ≤ 2 ^ 17)
+        × (most_weights ≤ length weights.old) × (most_lines * most_line ≤ length lines.old) }
 {
     let mut st = fillin_answer::start();
     let mut progress = Counter::begin(desk.output);

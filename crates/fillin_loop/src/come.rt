@@ -1,8 +1,8 @@
 // The records that have come: each is answered, and its line stands behind the others.
 ghost use Rattle.std.specs.Prelude.{◌≡◌, ◌+◌, ◌^◌, ◌≤◌, ◌<◌, length};
-ghost use Rattle.fillin_lines.specs.Lines.{mostLine};
+ghost use Rattle.fillin_lines.specs.Lines.{most_line};
 ghost use Rattle.fillin_answer.specs.Kept.{Ready, Carried};
-ghost use Rattle.fillin_loop.specs.Come.{mostLines, courseBy, is_over, so_far, nothingYet, oneMore, answering, Prepared, Reached};
+ghost use Rattle.fillin_loop.specs.Come.{most_lines, course_by, is_over, so_far, nothing_yet, with_one_more, answering, Prepared, Reached};
 
 use crate::ending::Ending;
 use fillin_answer::State;
@@ -25,7 +25,7 @@ pub(crate) enum Course {
 impl Course {
     // After a line, by whether it is the last one, and by its first letter: `end` or `stop`.
     fn after(last: bool, letter: u8) -> Self
-        ensures { result ≡ courseBy last letter }
+        ensures { result ≡ course_by last letter }
     {
         if last {
             if letter == b'e' {
@@ -61,12 +61,12 @@ pub(crate) struct Answered {
 
 // Answers one record, and puts its line behind the others.
 fn answer_one(done: Answered, record: &[u8], weights: &mut [u8], lines: &mut [u8]) -> Answered
-    requires { Ready done.state (length «record».now) (length weights.old) mostLine
-        × (done.text + mostLine ≤ length lines.old) × (done.bytes + length «record».now < 2 ^ 64) }
+    requires { Ready done.state (length «record».now) (length weights.old) most_line
+        × (done.text + most_line ≤ length lines.old) × (done.bytes + length «record».now < 2 ^ 64) }
     ensures lines_after { so_far result weights.new lines.new
-        ≡ oneMore (so_far done weights.old lines.old) «record».now }
+        ≡ with_one_more (so_far done weights.old lines.old) «record».now }
     ensures carried { Carried done.state (length «record».now) result.state
-        × (result.text ≤ done.text + mostLine) }
+        × (result.text ≤ done.text + most_line) }
 {
     let from = done.text;
     let end = from + MOST_LINE;
@@ -91,7 +91,7 @@ pub(crate) fn answer_come(
 ) -> Answered
     requires { Prepared st (length come.now) (length weights.old) (length lines.old) }
     ensures lines_after { so_far result weights.new lines.new
-        ≡ answering come.now ended mostLines (nothingYet st weights.old) }
+        ≡ answering come.now ended most_lines (nothing_yet st weights.old) }
     ensures reached { Reached st (length come.now) (length lines.new) result }
 {
     let mut done = Answered {

@@ -10,11 +10,11 @@ use mathlib.Core.List.{List, [], ◌∷◌, ◌++◌}
 use lib.Dec.{ltb}
 use lib.ListN.{length, length-append}
 use Rattle.io.specs.Digits.{last_digits, hex_digit_ascii, IsDigitCount}
-use Rattle.fillin_text.specs.Text.{decimalIn, decimal, field}
+use Rattle.fillin_text.specs.Text.{decimal_in, decimal, field}
 
 -- ---- a digit below 10
-glyph-small : (d : ℕ) → d < 10 → hex_digit_ascii d ≡ 48 + d
-glyph-small d h = rw (lt-ltb d 10 h)
+glyph_small : (d : ℕ) → d < 10 → hex_digit_ascii d ≡ 48 + d
+glyph_small d h = rw (lt-ltb d 10 h)
 
 -- ---- the fewest digits that hold n, spelt
 
@@ -30,16 +30,16 @@ later r n f =
     let m : suc r - 1 ≡ r = omega arith in
     (omega (arith, q, some), (omega arith, omega (arith, p), λ h. rw m (omega (arith, q))))
 
-spelt-in : (most r n : ℕ) → r ≤ most → IsDigitCount 10 1 n r → last_digits 10 r n ≡ decimalIn most n
-unfolding decimalIn
-spelt-in most zero n h f = absurd (not-suc-le-zero f.0)
-spelt-in zero (suc r) n h f = absurd (not-suc-le-zero h)
-spelt-in (suc most) (suc zero) n h f =
+spelt_in : (most r n : ℕ) → r ≤ most → IsDigitCount 10 1 n r → last_digits 10 r n ≡ decimal_in most n
+unfolding decimal_in
+spelt_in most zero n h f = absurd (not-suc-le-zero f.0)
+spelt_in zero (suc r) n h f = absurd (not-suc-le-zero h)
+spelt_in (suc most) (suc zero) n h f =
     let s : n < 10 = f.1 in
-    rw (lt-ltb n 10 s, mod-eq_of_lt s) (ap (λ (g : ℕ). g ∷ []) (glyph-small n s))
-spelt-in (suc most) (suc (suc r)) n h f =
+    rw (lt-ltb n 10 s, mod-eq_of_lt s) (ap (λ (g : ℕ). g ∷ []) (glyph_small n s))
+spelt_in (suc most) (suc (suc r)) n h f =
     let w = later r n f in
-    rw (le-ltb n 10 w.0, glyph-small (n % 10) (omega arith)) (ap (λ (l : List ℕ). l ++ ((48 + n % 10) ∷ [])) (spelt-in most (suc r) (n / 10) (omega arith) w.1))
+    rw (le-ltb n 10 w.0, glyph_small (n % 10) (omega arith)) (ap (λ (l : List ℕ). l ++ ((48 + n % 10) ∷ [])) (spelt_in most (suc r) (n / 10) (omega arith) w.1))
 
 -- a number of 64 bits takes twenty digits at most
 too_many : (r n : ℕ) → n < 2 ^ 64 → IsDigitCount 10 1 n r → 20 < r → ⊥
@@ -58,25 +58,25 @@ few r n h f =
 
 pub spelt : (r n : ℕ) → n < 2 ^ 64 → IsDigitCount 10 1 n r → last_digits 10 r n ≡ decimal n
 unfolding decimal
-spelt r n h f = spelt-in 20 r n (few r n h f) f
+spelt r n h f = spelt_in 20 r n (few r n h f) f
 
 -- ---- one digit at least, twenty at most
-length-decimal-in : (most n : ℕ) → (length (decimalIn most n) ≤ most) × (0 < most → 0 < length (decimalIn most n))
-unfolding decimalIn
-length-decimal-in zero n = (zero-le, λ h. h)
-length-decimal-in (suc most) n = go (ltb n 10) (length-decimal-in most (n / 10)).0
+length_decimal_in : (most n : ℕ) → (length (decimal_in most n) ≤ most) × (0 < most → 0 < length (decimal_in most n))
+unfolding decimal_in
+length_decimal_in zero n = (zero-le, λ h. h)
+length_decimal_in (suc most) n = go (ltb n 10) (length_decimal_in most (n / 10)).0
   where
-    go : (t : Bool) → length (decimalIn most (n / 10)) ≤ most → (let l = length (cond t ((48 + n) ∷ []) (decimalIn most (n / 10) ++ ((48 + n % 10) ∷ []))) in (l ≤ suc most) × (0 < suc most → 0 < l))
+    go : (t : Bool) → length (decimal_in most (n / 10)) ≤ most → (let l = length (cond t ((48 + n) ∷ []) (decimal_in most (n / 10) ++ ((48 + n % 10) ∷ []))) in (l ≤ suc most) × (0 < suc most → 0 < l))
     go true w = (omega arith, λ h. omega arith)
     go false w =
-        let e = length-append (decimalIn most (n / 10)) ((48 + n % 10) ∷ []) in
+        let e = length-append (decimal_in most (n / 10)) ((48 + n % 10) ∷ []) in
         (omega (arith, e), λ h. omega (arith, e))
 
-pub length-decimal : (n : ℕ) → (length (decimal n) ≤ 20) × (0 < length (decimal n))
+pub length_decimal : (n : ℕ) → (length (decimal n) ≤ 20) × (0 < length (decimal n))
 unfolding decimal
-length-decimal n = let w = length-decimal-in 20 n in (w.0, w.1 (omega arith))
+length_decimal n = let w = length_decimal_in 20 n in (w.0, w.1 (omega arith))
 
 -- a space and a number
-pub length-field : (n : ℕ) → (length (field n) ≤ 21) × (1 < length (field n))
+pub length_field : (n : ℕ) → (length (field n) ≤ 21) × (1 < length (field n))
 unfolding field
-length-field n = let w = length-decimal n in (omega (arith, w.0), omega (arith, w.1))
+length_field n = let w = length_decimal n in (omega (arith, w.0), omega (arith, w.1))

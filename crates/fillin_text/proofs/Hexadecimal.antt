@@ -6,27 +6,27 @@ use native.Mathlib.Omega.{arith}
 use mathlib.Core.List.{[], ◌∷◌}
 use lib.ListN.{length}
 use Rattle.memory.specs.Lists.{table}
-use Rattle.fillin_text.specs.Text.{hexDigit, hex8, hexField}
+use Rattle.fillin_text.specs.Text.{hex_digit, hex8, hex_field}
 
 -- a space, the highest digit, six between, the lowest
-pub hex-spelt : (bits : ℕ) → bits < 2 ^ 32
-    → hexField bits
+pub hex_spelt : (bits : ℕ) → bits < 2 ^ 32
+    → hex_field bits
     ≡ 32
-    ∷ hexDigit (bits / 0x1000_0000)
-    ∷ hexDigit (bits / 0x100_0000 % 16)
-    ∷ hexDigit (bits / 0x10_0000 % 16)
-    ∷ hexDigit (bits / 0x1_0000 % 16)
-    ∷ hexDigit (bits / 0x1000 % 16)
-    ∷ hexDigit (bits / 0x100 % 16)
-    ∷ hexDigit (bits / 0x10 % 16)
-    ∷ hexDigit (bits % 16)
+    ∷ hex_digit (bits / 0x1000_0000)
+    ∷ hex_digit (bits / 0x100_0000 % 16)
+    ∷ hex_digit (bits / 0x10_0000 % 16)
+    ∷ hex_digit (bits / 0x1_0000 % 16)
+    ∷ hex_digit (bits / 0x1000 % 16)
+    ∷ hex_digit (bits / 0x100 % 16)
+    ∷ hex_digit (bits / 0x10 % 16)
+    ∷ hex_digit (bits % 16)
     ∷ []
-unfolding hexField hex8 table
-hex-spelt bits h =
+unfolding hex_field hex8 table
+hex_spelt bits h =
     let top : bits / 0x1000_0000 % 16 ≡ bits / 0x1000_0000 = omega arith in
     let low : bits / 1 % 16 ≡ bits % 16 = ap (λ (n : ℕ). n % 16) (div-one bits) in
     rw (top, low)
 
-pub length-hex-field : (bits : ℕ) → length (hexField bits) ≡ 9
-unfolding hexField hex8 table
-length-hex-field bits = refl
+pub length_hex_field : (bits : ℕ) → length (hex_field bits) ≡ 9
+unfolding hex_field hex8 table
+length_hex_field bits = refl

@@ -10,29 +10,29 @@ use lib.Seq.{length-take-le, take-length, take_at, drop_at, drop-drop, paste, pa
 use Rattle.fillin_text.specs.Text.{laid}
 
 -- ---- one piece
-pub length-laid : (xs : List ℕ) (at : ℕ) (text : List ℕ) → at + length text ≤ length xs → length (laid xs at text) ≡ length xs
+pub length_laid : (xs : List ℕ) (at : ℕ) (text : List ℕ) → at + length text ≤ length xs → length (laid xs at text) ≡ length xs
 unfolding laid
-length-laid xs at text h =
+length_laid xs at text h =
     let a : at ≤ length xs = omega arith in
     simp (length-append, length-drop, length-take-le at xs a) (omega arith)
 
-pub laid-nothing : (xs : List ℕ) (at : ℕ) → laid xs at [] ≡ xs
+pub laid_nothing : (xs : List ℕ) (at : ℕ) → laid xs at [] ≡ xs
 unfolding laid
-laid-nothing xs at = rw add-zero (take-append-drop at xs)
+laid_nothing xs at = rw add-zero (take-append-drop at xs)
 
 -- at the front, the text stands before the rest
-pub laid-front : (xs text : List ℕ) → laid xs 0 text ≡ text ++ drop (length text) xs
+pub laid_front : (xs text : List ℕ) → laid xs 0 text ≡ text ++ drop (length text) xs
 unfolding laid
-laid-front xs text = rw zero-add
+laid_front xs text = rw zero-add
 
 -- so the text is what a buffer holds up to the text's length
-pub text_in-front : (xs text ys : List ℕ) (n : ℕ) → ys ≡ laid xs 0 text → n ≡ length text → take n ys ≡ text
-text_in-front xs text ys n p q = ap (take n) (p ∙ laid-front xs text) ∙ take_at text (drop (length text) xs) n (sym q)
+pub text_in_front : (xs text ys : List ℕ) (n : ℕ) → ys ≡ laid xs 0 text → n ≡ length text → take n ys ≡ text
+text_in_front xs text ys n p q = ap (take n) (p ∙ laid_front xs text) ∙ take_at text (drop (length text) xs) n (sym q)
 
 -- ---- a piece behind a piece: both are one text
-pub laid-behind : (xs : List ℕ) (at : ℕ) (t u : List ℕ) (b : ℕ) → at ≤ length xs → b ≡ at + length t → laid (laid xs at t) b u ≡ laid xs at (t ++ u)
+pub laid_behind : (xs : List ℕ) (at : ℕ) (t u : List ℕ) (b : ℕ) → at ≤ length xs → b ≡ at + length t → laid (laid xs at t) b u ≡ laid xs at (t ++ u)
 unfolding laid
-laid-behind xs at t u b h e =
+laid_behind xs at t u b h e =
     let rest : List ℕ = drop (at + length t) xs in
     let whole : take at xs ++ (t ++ rest) ≡ (take at xs ++ t) ++ rest = sym (append_assoc (take at xs) t rest) in
     let n : length (take at xs ++ t) ≡ b = length-append (take at xs) t ∙ ap (λ (k : ℕ). k + length t) (length-take-le at xs h) ∙ sym e in
@@ -54,22 +54,22 @@ first xs t p q = record { holds = p; ends = q ∙ zero-add (length t) }
 pub next : {xs t ys zs : List ℕ} {b c : ℕ} (u : List ℕ) → Written xs t ys b → zs ≡ laid ys b u → c ≡ b + length u → Written xs (t ++ u) zs c
 next {xs} {t} {b} u w p q =
     let e : b ≡ 0 + length t = w.ends ∙ sym (zero-add (length t)) in
-    record { holds = p ∙ ap (λ (l : List ℕ). laid l b u) w.holds ∙ laid-behind xs 0 t u b zero-le e; ends = omega (arith, length-append t u) }
+    record { holds = p ∙ ap (λ (l : List ℕ). laid l b u) w.holds ∙ laid_behind xs 0 t u b zero-le e; ends = omega (arith, length-append t u) }
 
 -- the whole line, by its name
 pub named : {xs t u ys : List ℕ} {b : ℕ} → t ≡ u → Written xs t ys b → Written xs u ys b
 named {xs} e w = record { holds = w.holds ∙ ap (laid xs 0) e; ends = w.ends ∙ ap length e }
 
 -- ---- one byte a turn: after k turns the first k bytes of the text are laid
-pub laying-start : (xs : List ℕ) (at : ℕ) (text : List ℕ) → xs ≡ paste xs at text 0
-laying-start xs at text = paste-zero xs at text
+pub laying_start : (xs : List ℕ) (at : ℕ) (text : List ℕ) → xs ≡ paste xs at text 0
+laying_start xs at text = paste-zero xs at text
 
-pub laying-more : (xs : List ℕ) (at : ℕ) (text ys : List ℕ) (k : ℕ) → at + length text ≤ length xs → k < length text → ys ≡ paste xs at text k
+pub laying_more : (xs : List ℕ) (at : ℕ) (text ys : List ℕ) (k : ℕ) → at + length text ≤ length xs → k < length text → ys ≡ paste xs at text k
     → set ys (at + k) (get_or text k 0) ≡ paste xs at text (k + 1)
-laying-more xs at text ys k room h e =
+laying_more xs at text ys k room h e =
     let i : at + k < length xs = omega arith in
     ap (λ (l : List ℕ). set l (at + k) (get_or text k 0)) e ∙ paste-suc xs at text k 0 i h ∙ ap (paste xs at text) (sym (add-one k))
 
-pub laying-done : (xs : List ℕ) (at : ℕ) (text : List ℕ) → paste xs at text (length text) ≡ laid xs at text
+pub laying_done : (xs : List ℕ) (at : ℕ) (text : List ℕ) → paste xs at text (length text) ≡ laid xs at text
 unfolding laid
-laying-done xs at text = rw take-length (append_assoc (take at xs) text (drop (at + length text) xs))
+laying_done xs at text = rw take-length (append_assoc (take at xs) text (drop (at + length text) xs))

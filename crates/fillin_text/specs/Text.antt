@@ -5,13 +5,13 @@ use Rattle.memory.specs.Lists.{table}
 -- ---- decimal
 
 -- the decimal digits of a number that has at most `most` of them, with no zero in front
-unfoldable pub decimalIn : (most : ℕ) → ℕ → List ℕ
-decimalIn zero n = []
-decimalIn (suc most) n = cond (ltb n 10) ((48 + n) ∷ []) (decimalIn most (n / 10) ++ ((48 + n % 10) ∷ []))
+unfoldable pub decimal_in : (most : ℕ) → ℕ → List ℕ
+decimal_in zero n = []
+decimal_in (suc most) n = cond (ltb n 10) ((48 + n) ∷ []) (decimal_in most (n / 10) ++ ((48 + n % 10) ∷ []))
 
 -- the decimal digits of a number of 64 bits
 unfoldable pub decimal : ℕ → List ℕ
-decimal n = decimalIn 20 n
+decimal n = decimal_in 20 n
 
 -- a space and a decimal number
 unfoldable pub field : ℕ → List ℕ
@@ -20,16 +20,16 @@ field n = 32 ∷ decimal n
 -- ---- hexadecimal
 
 -- the upper-case digit: `0` to `9`, then `A` to `F`
-unfoldable pub hexDigit : ℕ → ℕ
-hexDigit d = cond (ltb d 10) (48 + d) (55 + d)
+unfoldable pub hex_digit : ℕ → ℕ
+hex_digit d = cond (ltb d 10) (48 + d) (55 + d)
 
 -- eight upper-case hex digits of 32 bits
 unfoldable pub hex8 : ℕ → List ℕ
-hex8 bits = table (λ k. hexDigit (bits / 16 ^ (7 - k) % 16)) 8
+hex8 bits = table (λ k. hex_digit (bits / 16 ^ (7 - k) % 16)) 8
 
 -- a space and the digits
-unfoldable pub hexField : ℕ → List ℕ
-hexField bits = 32 ∷ hex8 bits
+unfoldable pub hex_field : ℕ → List ℕ
+hex_field bits = 32 ∷ hex8 bits
 
 -- ---- a line in memory
 

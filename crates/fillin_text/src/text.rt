@@ -2,7 +2,7 @@
 ghost use Rattle.std.specs.Prelude.{◌≡◌, ◌+◌, ◌<◌, ◌≤◌, length};
 ghost use Rattle.std.specs.Float.{binary32};
 ghost use Rattle.std.specs.Float.Ieee.{to_bits};
-ghost use Rattle.fillin_text.specs.Text.{laid, field, hexDigit, hexField};
+ghost use Rattle.fillin_text.specs.Text.{laid, field, hex_digit, hex_field};
 
 // Lays text into the line from `at` on. Returns the place behind it.
 pub fn put(line: &mut [u8], at: usize, text: &[u8]) -> usize
@@ -33,14 +33,14 @@ pub fn put_field(line: &mut [u8], at: usize, n: u64) -> usize
 // The ASCII code of an upper-case hexadecimal digit.
 fn hex_digit(d: u32) -> u8
     requires { d < 16 }
-    ensures { result ≡ hexDigit d }
+    ensures { result ≡ hex_digit d }
 {
     if d < 10 { 48 + d as u8 } else { 55 + d as u8 }
 }
 
 // A space and the eight hexadecimal digits of 32 bits.
 fn hex_field(bits: u32) -> [u8; 9]
-    ensures { result ≡ hexField bits }
+    ensures { result ≡ hex_field bits }
 {
     [
         b' ',
@@ -58,7 +58,7 @@ fn hex_field(bits: u32) -> [u8; 9]
 // Lays a space and the eight hexadecimal digits of an output's bits, 9 bytes.
 pub fn put_output(line: &mut [u8], at: usize, output: f32) -> usize
     requires { at + 9 ≤ length line.old }
-    ensures line_after { line.new ≡ laid line.old at (hexField (to_bits binary32 output)) }
+    ensures line_after { line.new ≡ laid line.old at (hex_field (to_bits binary32 output)) }
     ensures value { result ≡ at + 9 }
 {
     let text = hex_field(halves::bits_of(output));

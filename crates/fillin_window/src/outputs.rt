@@ -1,10 +1,10 @@
 // A layer that is opened, run to its end and closed, for the readings of one window.
 ghost use Rattle.std.specs.Prelude.{◌≡◌, ◌*◌, ◌≤◌, ◌++◌, length, drop};
-ghost use Rattle.refusals.specs.Said.{outcomeSays, done};
+ghost use Rattle.refusals.specs.Said.{outcome_says, done};
 ghost use Rattle.memory.specs.Lists.{filled};
 ghost use Rattle.stepped_shape.specs.Layer.{memory};
-ghost use Rattle.stepped_pieces.specs.Pieces.{rowMet};
-ghost use Rattle.fillin_window.specs.Windows.{Sound, readingsOf, outputsOf};
+ghost use Rattle.stepped_pieces.specs.Pieces.{row_met};
+ghost use Rattle.fillin_window.specs.Windows.{Sound, readings_of, outputs_of};
 ghost use Rattle.fillin_window.specs.Inner.{Run};
 
 use refusals::Outcome;
@@ -16,8 +16,8 @@ const MOST_PIECES: usize = 16;
 // Closes every row of a layer that has no open piece.
 fn close_rows(l: Layer, slots: &[f32], marks: &[u8], y: &mut [f32]) -> Outcome
     requires { Run l (memory slots.now marks.now) × (l.out_feat ≤ length y.old) }
-    ensures result_value { outcomeSays result ≡ done }
-    ensures y_after { y.new ≡ filled (rowMet l slots.now) y.old l.out_feat }
+    ensures result_value { outcome_says result ≡ done }
+    ensures y_after { y.new ≡ filled (row_met l slots.now) y.old l.out_feat }
 {
     let rows = l.out_feat;
     for row in 0..rows {
@@ -34,9 +34,9 @@ fn close_rows(l: Layer, slots: &[f32], marks: &[u8], y: &mut [f32]) -> Outcome
 // takes within its only caller. A layer that has no piece refuses it, and then run has none to do.
 fn fill_outputs(l: Layer, w: &[u8], x: &[f32], y: &mut [f32]) -> Outcome
     requires { Sound l (length w.now) × (length x.now ≡ l.in_feat) × (l.out_feat ≤ length y.old) }
-    ensures result_value { outcomeSays result ≡ done }
+    ensures result_value { outcome_says result ≡ done }
     ensures y_after { y.new
-        ≡ outputsOf l w.now x.now ++ drop l.out_feat y.old }
+        ≡ outputs_of l w.now x.now ++ drop l.out_feat y.old }
 {
     let mut slots = [0.0f32; MOST_PIECES];
     let mut marks = [0u8; MOST_PIECES];
@@ -63,9 +63,9 @@ fn readings_room() -> [f32; records::MOST_LAYER_IN]
 pub fn window_outputs(l: Layer, w: &[u8], bytes: &[u8], y: &mut [f32]) -> Outcome
     requires { Sound l (length w.now) × (length bytes.now ≡ l.in_feat * 4)
         × (l.out_feat ≤ length y.old) }
-    ensures result_value { outcomeSays result ≡ done }
+    ensures result_value { outcome_says result ≡ done }
     ensures y_after { y.new
-        ≡ outputsOf l w.now (readingsOf bytes.now l) ++ drop l.out_feat y.old }
+        ≡ outputs_of l w.now (readings_of bytes.now l) ++ drop l.out_feat y.old }
 {
     let inputs = l.in_feat;
     let mut x = readings_room();

@@ -14,17 +14,17 @@ module _ {L : Type 0} {A R S : L → Type 0} where
   abbrev pub OneList : ((κs : L) → A κs → R κs → S κs → Type 0) → ((κs : L) → R κs → List ℕ) → Type 0
   OneList P bytes = (κs : L) (a : A κs) (x y : R κs) (s t : S κs) → P κs a x s → P κs a y t → bytes κs x ≡ bytes κs y
 
-pub size-of-once : OneResult size.Post
-size-of-once κs a x y s t h k = same h.0 k.0
+pub size_of_once : OneResult size.Post
+size_of_once κs a x y s t h k = same h.0 k.0
 
-pub frame-of-once : OneResult frame.Post
-frame-of-once κs a x y s t h k = same h k
+pub frame_of_once : OneResult frame.Post
+frame_of_once κs a x y s t h k = same h k
 
-pub payload-once : OneList payload.Post (λ κs x. x.now)
-payload-once κs a x y s t h k = same h k
+pub payload_once : OneList payload.Post (λ κs x. x.now)
+payload_once κs a x y s t h k = same h k
 
-pub rest-once : OneList rest.Post (λ κs x. x.now)
-rest-once κs a x y s t h k = same h k
+pub rest_once : OneList rest.Post (λ κs x. x.now)
+rest_once κs a x y s t h k = same h k
 
-pub next-record-once : OneResult next.Post
-next-record-once κs a x y s t h k = same h k
+pub next_record_once : OneResult next.Post
+next_record_once κs a x y s t h k = same h k

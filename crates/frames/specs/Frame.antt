@@ -6,20 +6,20 @@ use Rattle.frames.specs.declared.frame.Front.{Front}
 use Rattle.frames.specs.declared.frame.Front.TheVariants as front
 
 -- a record has at most 32,772 bytes, its length field among them
-abbrev pub mostRecord : ℕ
-mostRecord = 32772
+abbrev pub most_record : ℕ
+most_record = 32772
 
 -- s begins with a length field, from 2 to 32,768
-unfoldable pub goodLength : List ℕ → Bool
-goodLength s = leb 4 (length s) && (leb 2 (le32 s 0) && leb (le32 s 0) 32768)
+unfoldable pub good_length : List ℕ → Bool
+good_length s = leb 4 (length s) && (leb 2 (le32 s 0) && leb (le32 s 0) 32768)
 
 -- how many bytes the record has that begins with s: 4, its length field, where that is missing or bad
 unfoldable pub size_of : List ℕ → ℕ
-size_of s = cond (goodLength s) (4 + le32 s 0) 4
+size_of s = cond (good_length s) (4 + le32 s 0) 4
 
 -- s begins with a good length and all the bytes that it counts
-unfoldable pub isWhole : List ℕ → Bool
-isWhole s = goodLength s && leb (size_of s) (length s)
+unfoldable pub is_whole : List ℕ → Bool
+is_whole s = good_length s && leb (size_of s) (length s)
 
 -- nothing is left; a bad or cut length; or a whole record and what follows it
 pub data Frame : Type 0 where
@@ -31,20 +31,20 @@ pub data Frame : Type 0 where
 unfoldable pub frame_of : List ℕ → Frame
 frame_of s =
     cond (eqb (length s) 0) ended
-    (cond (isWhole s) (whole (le16 s 4) (part s 6 (size_of s - 6)) (drop (size_of s) s))
+    (cond (is_whole s) (whole (le16 s 4) (part s 6 (size_of s - 6)) (drop (size_of s) s))
     torn)
 
 -- the code's word for each
-abbrev pub frontOf : Frame → Front
-frontOf ended = front.Ended
-frontOf torn = front.Torn
-frontOf (whole kind payload rest) = front.Whole kind
+abbrev pub front_of : Frame → Front
+front_of ended = front.Ended
+front_of torn = front.Torn
+front_of (whole kind payload rest) = front.Whole kind
 
 -- the payload; the empty part where no whole record stands
-abbrev pub payloadOf : Frame → List ℕ
-payloadOf ended = []
-payloadOf torn = []
-payloadOf (whole kind payload rest) = payload
+abbrev pub payload_of : Frame → List ℕ
+payload_of ended = []
+payload_of torn = []
+payload_of (whole kind payload rest) = payload
 
 -- what follows the record; the empty part where no whole record stands
 abbrev pub rest_of : Frame → List ℕ

@@ -1,8 +1,8 @@
 // A record: a u32 length of its kind and payload, a u16 kind, the payload.
 ghost use Rattle.std.specs.Prelude.{◌≡◌, ◌≤◌};
-ghost use Rattle.frames.specs.Frame.{mostRecord, goodLength, size_of, isWhole, frame_of};
-ghost use Rattle.frames.specs.Frame.{frontOf, payloadOf, rest_of};
-ghost use Rattle.frames.specs.Pieces.{nextIn};
+ghost use Rattle.frames.specs.Frame.{most_record, good_length, size_of, is_whole, frame_of};
+ghost use Rattle.frames.specs.Frame.{front_of, payload_of, rest_of};
+ghost use Rattle.frames.specs.Pieces.{next_in};
 
 use numbers::{u16_at, u32_at};
 
@@ -17,7 +17,7 @@ const HEAD: usize = 6;
 
 // Whether these bytes begin with a length field, from 2 to 32,768.
 fn good_length(s: &[u8]) -> bool
-    ensures { result ≡ goodLength s.now }
+    ensures { result ≡ good_length s.now }
 {
     if s.len() < 4 {
         return false;
@@ -31,14 +31,14 @@ fn good_length(s: &[u8]) -> bool
 
 // How many bytes the record has that begins with these: 4, its length field, where that is missing or bad.
 pub fn size_of(s: &[u8]) -> usize
-    ensures { (result ≡ size_of s.now) × (result ≤ mostRecord) }
+    ensures { (result ≡ size_of s.now) × (result ≤ most_record) }
 {
     if good_length(s) { 4 + u32_at(s, 0) } else { 4 }
 }
 
 // Whether these bytes begin with a good length and all the bytes that it counts.
 fn is_whole(s: &[u8]) -> bool
-    ensures { result ≡ isWhole s.now }
+    ensures { result ≡ is_whole s.now }
 {
     if !good_length(s) {
         return false;
@@ -59,7 +59,7 @@ pub enum Front {
 
 // What these bytes begin with.
 pub fn frame_of(s: &[u8]) -> Front
-    ensures { result ≡ frontOf (frame_of s.now) }
+    ensures { result ≡ front_of (frame_of s.now) }
 {
     if s.len() == 0 {
         return Front::Ended;
@@ -73,7 +73,7 @@ pub fn frame_of(s: &[u8]) -> Front
 // The payload of the record that these bytes begin with, as a part of them; the empty part where no whole record
 // stands there.
 pub fn payload(s: &[u8]) -> &[u8]
-    ensures { result.now ≡ payloadOf (frame_of s.now) }
+    ensures { result.now ≡ payload_of (frame_of s.now) }
 {
     if is_whole(s) {
         let to = size_of(s);
@@ -108,7 +108,7 @@ pub enum Next {
 // The next record at the front of what has come and is not answered yet, which nothing follows where the input has
 // ended.
 pub fn next_record(rest: &[u8], ended: bool) -> Next
-    ensures { result ≡ nextIn rest.now ended }
+    ensures { result ≡ next_in rest.now ended }
 {
     let size = size_of(rest);
     if size <= rest.len() {

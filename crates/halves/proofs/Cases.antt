@@ -35,17 +35,17 @@ pub no_number : div binary32 (of_bits binary32 0) (of_bits binary32 0) ≡ nan
 unfolding div of_bits
 no_number = refl
 
-pub at-infinity : (h : ℕ) → exponent h ≡ 31 → digits h ≡ 0 → widened h ≡ inf (negative h)
+pub at_infinity : (h : ℕ) → exponent h ≡ 31 → digits h ≡ 0 → widened h ≡ inf (negative h)
 unfolding widened
-at-infinity h e d = rw (eq-eqb (exponent h) 31 e, eq-eqb (digits h) 0 d)
+at_infinity h e d = rw (eq-eqb (exponent h) 31 e, eq-eqb (digits h) 0 d)
 
-pub at-nan : (h : ℕ) → exponent h ≡ 31 → (digits h ≡ 0 → ⊥) → widened h ≡ nan
+pub at_nan : (h : ℕ) → exponent h ≡ 31 → (digits h ≡ 0 → ⊥) → widened h ≡ nan
 unfolding widened
-at-nan h e d = rw (eq-eqb (exponent h) 31 e, ne_eqb (digits h) 0 d)
+at_nan h e d = rw (eq-eqb (exponent h) 31 e, ne_eqb (digits h) 0 d)
 
-pub at-finite : (h x : ℕ) → exponent h ≡ x → (exponent h ≡ 31 → ⊥) → widened h ≡ round binary32 (negative h) (multiple x (digits h)) (2 ^ 24)
+pub at_finite : (h x : ℕ) → exponent h ≡ x → (exponent h ≡ 31 → ⊥) → widened h ≡ round binary32 (negative h) (multiple x (digits h)) (2 ^ 24)
 unfolding widened
-at-finite h x e n = rw (ne_eqb (exponent h) 31 n, e)
+at_finite h x e n = rw (ne_eqb (exponent h) 31 n, e)
 
 pub normal : (s : Bool) (t x : ℕ) → 0 < x → round binary32 s ((t + 1024) * 2 ^ (x + 112)) (2 ^ 137) ≡ round binary32 s (multiple x t) (2 ^ 24)
 normal s t zero p = let z : ◌≡◌ {A = ℕ} 0 1 = omega arith in absurd (omega (arith, z))

@@ -8,7 +8,7 @@ use mathlib.Core.Bool.{Bool, true, false, cond}
 use borrow.Author.Tests.{lt-leb, le-leb, leb-true, leb-false}
 use lib.Dec.{leb}
 use lib.Pow.{pow_pos, pow-add}
-use Rattle.halves.specs.Binary16.{exponent, digits, multiple, multipleOf, exponent32, magnitude16, multiple32, narrowed, Narrows}
+use Rattle.halves.specs.Binary16.{exponent, digits, multiple, multiple_of, exponent32, magnitude16, multiple32, narrowed, Narrows}
 
 -- ---- the fields of what is made
 
@@ -20,17 +20,17 @@ small x t d = by (leb x 112) (leb 143 x) refl refl
     by false true e f = omega arith
     by false false e f = omega (arith, leb-false 143 x f)
 
-exponent-is : (s x t : ℕ) → s < 2 → 112 < x → x < 143 → t < 1024 → (s * 32768 + ((x - 112) * 1024 + t)) / 1024 % 32 ≡ x - 112
-exponent-is s x t a b c d = omega arith
+exponent_is : (s x t : ℕ) → s < 2 → 112 < x → x < 143 → t < 1024 → (s * 32768 + ((x - 112) * 1024 + t)) / 1024 % 32 ≡ x - 112
+exponent_is s x t a b c d = omega arith
 
 digits_are : (s x t : ℕ) → t < 1024 → (s * 32768 + ((x - 112) * 1024 + t)) % 1024 ≡ t
 digits_are s x t d = omega arith
 
 -- ---- between the two ends
 
-in-range : (b : ℕ) → 112 < exponent32 b → exponent32 b < 143 → narrowed b ≡ b / 2147483648 * 32768 + ((exponent32 b - 112) * 1024 + b / 8192 % 1024)
+in_range : (b : ℕ) → 112 < exponent32 b → exponent32 b < 143 → narrowed b ≡ b / 2147483648 * 32768 + ((exponent32 b - 112) * 1024 + b / 8192 % 1024)
 unfolding narrowed
-in-range b h k = rw (lt-leb _ _ h, lt-leb _ _ k)
+in_range b h k = rw (lt-leb _ _ h, lt-leb _ _ k)
 
 -- the number that is kept, in units of 2 ^ -149
 raised : (m y : ℕ) → m * 2 ^ y * 2 ^ 125 ≡ m * 8192 * 2 ^ (y + 112)
@@ -46,24 +46,24 @@ cut_at t d y h k =
     let e : (1024 + t) * 2 ^ y + 2 ^ y ≡ (1024 + t + 1) * 2 ^ y = sym (rw add-one (suc-mul (1024 + t) (2 ^ y))) in
     (rw raised (mul-le-mul_right (2 ^ (y + 112)) a), rw (e, raised) (mul-lt-mul_of_pos_right b (pow_pos (y + 112))))
 
-low-digits : (b : ℕ) → (b / 8192 % 1024 * 8192 ≤ b % 8388608) × (b % 8388608 < (b / 8192 % 1024 + 1) * 8192)
-low-digits b = (omega arith, omega arith)
+low_digits : (b : ℕ) → (b / 8192 % 1024 * 8192 ≤ b % 8388608) × (b % 8388608 < (b / 8192 % 1024 + 1) * 8192)
+low_digits b = (omega arith, omega arith)
 
 cut : (b : ℕ) → b < 2 ^ 32 → 112 < exponent32 b → exponent32 b < 143
-    → (multipleOf (narrowed b) * 2 ^ 125 ≤ multiple32 b) × (multiple32 b < (multipleOf (narrowed b) + 2 ^ (exponent (narrowed b) - 1)) * 2 ^ 125)
+    → (multiple_of (narrowed b) * 2 ^ 125 ≤ multiple32 b) × (multiple32 b < (multiple_of (narrowed b) + 2 ^ (exponent (narrowed b) - 1)) * 2 ^ 125)
 cut b w h k =
     let x = exponent32 b in
     let t = b / 8192 % 1024 in
     let y = x - 113 in
     let s = b / 2147483648 in
-    let s-lt : s < 2 = omega arith in
-    let t-lt : t < 1024 = omega arith in
-    let e : exponent (narrowed b) ≡ suc y = ap exponent (in-range b h k) ∙ exponent-is s x t s-lt h k t-lt ∙ (omega arith) in
-    let d : digits (narrowed b) ≡ t = ap digits (in-range b h k) ∙ digits_are s x t t-lt in
-    let m : multipleOf (narrowed b) ≡ (1024 + t) * 2 ^ y = rw (e, d) in
+    let s_lt : s < 2 = omega arith in
+    let t_lt : t < 1024 = omega arith in
+    let e : exponent (narrowed b) ≡ suc y = ap exponent (in_range b h k) ∙ exponent_is s x t s_lt h k t_lt ∙ (omega arith) in
+    let d : digits (narrowed b) ≡ t = ap digits (in_range b h k) ∙ digits_are s x t t_lt in
+    let m : multiple_of (narrowed b) ≡ (1024 + t) * 2 ^ y = rw (e, d) in
     let u : x - 1 ≡ y + 112 = omega arith in
     let q : exponent (narrowed b) - 1 ≡ y = omega arith in
-    let l = low-digits b in
+    let l = low_digits b in
     let r = cut_at t (b % 8388608) y l.0 l.1 in
     (rw (m, u) r.0, rw (m, u, q) r.1)
 
@@ -73,18 +73,18 @@ sign_kept : (b : ℕ) → narrowed b / 32768 ≡ b / 2147483648
 unfolding narrowed
 sign_kept b = let t : b / 8192 % 1024 < 1024 = omega arith in let m = small (exponent32 b) (b / 8192 % 1024) t in omega arith
 
-rest-is : (b : ℕ) → narrowed b % 32768 ≡ magnitude16 (exponent32 b) (b / 8192 % 1024)
+rest_is : (b : ℕ) → narrowed b % 32768 ≡ magnitude16 (exponent32 b) (b / 8192 % 1024)
 unfolding narrowed
-rest-is b = let t : b / 8192 % 1024 < 1024 = omega arith in let m = small (exponent32 b) (b / 8192 % 1024) t in omega arith
+rest_is b = let t : b / 8192 % 1024 < 1024 = omega arith in let m = small (exponent32 b) (b / 8192 % 1024) t in omega arith
 
 pub narrows : (b : ℕ) → b < 2 ^ 32 → Narrows b (narrowed b)
 narrows b w =
     record {
       sign = sign_kept b;
-      flushed = λ h. rest-is b ∙ rw (le-leb _ _ h);
+      flushed = λ h. rest_is b ∙ rw (le-leb _ _ h);
       at_most = λ h k. (cut b w h k).0;
-      next-above = λ h k. (cut b w h k).1;
-      overflow = λ h. let l : 112 < exponent32 b = omega arith in rest-is b ∙ rw (lt-leb _ _ l, le-leb _ _ h);
+      next_above = λ h k. (cut b w h k).1;
+      overflow = λ h. let l : 112 < exponent32 b = omega arith in rest_is b ∙ rw (lt-leb _ _ l, le-leb _ _ h);
     }
 
 -- ---- no other pattern
@@ -134,8 +134,8 @@ rising m zero = let e : m + 0 ≡ m = omega arith in rw e (omega arith)
 rising m (suc k) = let e : m + suc k ≡ m + k + 1 = omega arith in rw (e, ← next (m + k)) (omega (arith, rising m k))
 
 -- a number from m's on and below the next of n's: m is at most n
-at-or-below : (m n v : ℕ) → at m * 2 ^ 125 ≤ v → v < (at n + last n) * 2 ^ 125 → m ≤ n
-at-or-below m n v h k =
+at_or_below : (m n v : ℕ) → at m * 2 ^ 125 ≤ v → v < (at n + last n) * 2 ^ 125 → m ≤ n
+at_or_below m n v h k =
     let none : n < m → ⊥ =
     λ l. let e : m ≡ n + 1 + (m - (n + 1)) = omega arith in
     let a : at n + last n ≤ at m = rw (next n, e) (rising (n + 1) (m - (n + 1))) in
@@ -143,15 +143,15 @@ at-or-below m n v h k =
     omega arith
 
 -- a pattern's number is that of its magnitude
-its-number : (h : ℕ) → (multipleOf h ≡ at (h % 32768)) × (2 ^ (exponent h - 1) ≡ last (h % 32768))
-its-number h =
+its_number : (h : ℕ) → (multiple_of h ≡ at (h % 32768)) × (2 ^ (exponent h - 1) ≡ last (h % 32768))
+its_number h =
     let x : h % 32768 / 1024 ≡ exponent h = omega arith in
     let t : h % 32768 % 1024 ≡ digits h = omega arith in
     (rw (x, t), rw x)
 
 -- What document 01 says is met by one pattern.
-pub only-narrowed : (b h : ℕ) → b < 2 ^ 32 → Narrows b h → h ≡ narrowed b
-only-narrowed b h w n =
+pub only_narrowed : (b h : ℕ) → b < 2 ^ 32 → Narrows b h → h ≡ narrowed b
+only_narrowed b h w n =
     let k = narrows b w in
     let s = n.sign ∙ sym k.sign in
     let m = by k (leb (exponent32 b) 112) (leb 143 (exponent32 b)) refl refl in
@@ -163,8 +163,8 @@ only-narrowed b h w n =
     by k false false e f =
         let l = leb-false _ _ e in
         let u = leb-false _ _ f in
-        let p = its-number h in
-        let q = its-number (narrowed b) in
-        let a = at-or-below (h % 32768) (narrowed b % 32768) (multiple32 b) (rw p.0 at (n.at_most l u)) (rw (q.0, q.1) at (k.next-above l u)) in
-        let c = at-or-below (narrowed b % 32768) (h % 32768) (multiple32 b) (rw q.0 at (k.at_most l u)) (rw (p.0, p.1) at (n.next-above l u)) in
+        let p = its_number h in
+        let q = its_number (narrowed b) in
+        let a = at_or_below (h % 32768) (narrowed b % 32768) (multiple32 b) (rw p.0 at (n.at_most l u)) (rw (q.0, q.1) at (k.next_above l u)) in
+        let c = at_or_below (narrowed b % 32768) (h % 32768) (multiple32 b) (rw q.0 at (k.at_most l u)) (rw (p.0, p.1) at (n.next_above l u)) in
         omega arith

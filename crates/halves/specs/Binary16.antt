@@ -23,20 +23,20 @@ multiple zero t = t
 multiple (suc x) t = (1024 + t) * 2 ^ x
 
 -- the same, of a pattern
-abbrev pub multipleOf : ℕ → ℕ
-multipleOf h = multiple (exponent h) (digits h)
+abbrev pub multiple_of : ℕ → ℕ
+multiple_of h = multiple (exponent h) (digits h)
 
 -- The binary32 that a binary16 widens to. A field of 31 is an infinity or a NaN. Any other is a whole multiple of 2 ^
 -- -24: binary32 holds it, so `round` rounds nothing.
 unfoldable pub widened : ℕ → Float
 widened h =
     cond (eqb (exponent h) 31) (cond (eqb (digits h) 0) (inf (negative h)) nan)
-    (round binary32 (negative h) (multipleOf h) (2 ^ 24))
+    (round binary32 (negative h) (multiple_of h) (2 ^ 24))
 
 -- Document 01 on widening: a finite binary16 and its binary32 have one sign and are the same whole multiple of 2 ^ -24;
 -- infinities keep their sign, NaN stays NaN.
 pub record Widens (h : ℕ) (x : Float) : Type 0 where
-  pub finite : (exponent h ≡ 31 → ⊥) → HasValue x (negative h) (multipleOf h) (2 ^ 24)
+  pub finite : (exponent h ≡ 31 → ⊥) → HasValue x (negative h) (multiple_of h) (2 ^ 24)
   pub infinite : exponent h ≡ 31 → digits h ≡ 0 → x ≡ inf (negative h)
   pub no_number : exponent h ≡ 31 → (digits h ≡ 0 → ⊥) → x ≡ nan
 
@@ -63,7 +63,7 @@ multiple32 b = (8388608 + b % 8388608) * 2 ^ (exponent32 b - 1)
 pub record Narrows (b h : ℕ) : Type 0 where
   pub sign : h / 32768 ≡ b / 2147483648
   pub flushed : exponent32 b ≤ 112 → h % 32768 ≡ 0
-  pub at_most : 112 < exponent32 b → exponent32 b < 143 → multipleOf h * 2 ^ 125 ≤ multiple32 b
-  pub next-above : 112 < exponent32 b → exponent32 b < 143
-      → multiple32 b < (multipleOf h + 2 ^ (exponent h - 1)) * 2 ^ 125
+  pub at_most : 112 < exponent32 b → exponent32 b < 143 → multiple_of h * 2 ^ 125 ≤ multiple32 b
+  pub next_above : 112 < exponent32 b → exponent32 b < 143
+      → multiple32 b < (multiple_of h + 2 ^ (exponent h - 1)) * 2 ^ 125
   pub overflow : 143 ≤ exponent32 b → h % 32768 ≡ 31744

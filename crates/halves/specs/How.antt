@@ -1,6 +1,6 @@
 -- What a pattern stands for, its sign aside, and by that which of four a narrowing was. Definitions only.
 use Rattle.std.specs.Prelude.{◌≡◌, ℕ, ◌*◌, ◌%◌, ◌^◌, ◌<◌, Bool, true, false, cond, eqb}
-use Rattle.halves.specs.Binary16.{exponent, digits, multipleOf, exponent32, multiple32, narrowed}
+use Rattle.halves.specs.Binary16.{exponent, digits, multiple_of, exponent32, multiple32, narrowed}
 use Rattle.halves.specs.declared.how.How.{How}
 use Rattle.halves.specs.declared.how.How.TheVariants.{Exact, Cut, Flushed, SentToInfinity}
 use Rattle.halves.specs.declared.how.Narrowed.{Narrowed}
@@ -13,17 +13,17 @@ pub data Worth : Type 0 where
 
 -- what a pattern with the exponent's field x, of which `top` is the largest, and the digits t stands for: where it is
 -- finite, m
-abbrev pub worthBy : (top x t m : ℕ) → Worth
-worthBy top x t m = cond (eqb x top) (cond (eqb t 0) infinite no_number) (finite m)
+abbrev pub worth_by : (top x t m : ℕ) → Worth
+worth_by top x t m = cond (eqb x top) (cond (eqb t 0) infinite no_number) (finite m)
 
 -- what a binary16 pattern stands for, ..
 unfoldable pub worth16 : ℕ → Worth
-worth16 h = worthBy 31 (exponent h) (digits h) (multipleOf h * 2 ^ 125)
+worth16 h = worth_by 31 (exponent h) (digits h) (multiple_of h * 2 ^ 125)
 
 -- .. and a binary32 pattern. A field of 0 has no leading digit: its digits are the multiple.
 unfoldable pub worth32 : ℕ → Worth
 worth32 b =
-    worthBy 255 (exponent32 b) (b % 8388608) (cond (eqb (exponent32 b) 0) (b % 8388608) (multiple32 b))
+    worth_by 255 (exponent32 b) (b % 8388608) (cond (eqb (exponent32 b) 0) (b % 8388608) (multiple32 b))
 
 -- whether it is the number n, ..
 abbrev pub is_number : ℕ → Worth → Bool
@@ -32,34 +32,34 @@ is_number n infinite = false
 is_number n no_number = false
 
 -- .. an infinity, ..
-abbrev pub isInfinite : Worth → Bool
-isInfinite (finite m) = false
-isInfinite infinite = true
-isInfinite no_number = false
+abbrev pub is_infinite : Worth → Bool
+is_infinite (finite m) = false
+is_infinite infinite = true
+is_infinite no_number = false
 
 -- .. and the value that x is, where x has one
-abbrev pub sameAs : Worth → Worth → Bool
-sameAs (finite m) y = is_number m y
-sameAs infinite y = isInfinite y
-sameAs no_number y = false
+abbrev pub same_as : Worth → Worth → Bool
+same_as (finite m) y = is_number m y
+same_as infinite y = is_infinite y
+same_as no_number y = false
 
 -- Document 02 on `f32_to_f16`, where x went in and y came out. Exact: the half has the number's value, zeros and
 -- infinities too. Flushed: a number that is not zero became one. Sent to infinity: a NaN, or a finite number too large.
 -- Cut: all else.
-unfoldable pub howFrom : Worth → Worth → How
-howFrom x y =
-    cond (sameAs x y) Exact
+unfoldable pub how_from : Worth → Worth → How
+how_from x y =
+    cond (same_as x y) Exact
     (cond (is_number 0 y) Flushed
-    (cond (isInfinite y) SentToInfinity
+    (cond (is_infinite y) SentToInfinity
     Cut))
 
 -- which of the four the narrowing of a binary32 pattern is
-unfoldable pub howNarrowed : ℕ → How
-howNarrowed b = howFrom (worth32 b) (worth16 (narrowed b))
+unfoldable pub how_narrowed : ℕ → How
+how_narrowed b = how_from (worth32 b) (worth16 (narrowed b))
 
 -- what `f32_to_f16` answers: its bits, and which of the four it was
 abbrev pub narrowing : ℕ → Narrowed
-narrowing b = record { bits = narrowed b; how = howNarrowed b }
+narrowing b = record { bits = narrowed b; how = how_narrowed b }
 
 -- n is less than the number that x is
 abbrev pub LessThan : Worth → ℕ → Type 0

@@ -1,6 +1,6 @@
 // Which of four the narrowing of a binary32 to a binary16 was.
 ghost use Rattle.std.specs.Prelude.{◌≡◌};
-ghost use Rattle.halves.specs.How.{howNarrowed};
+ghost use Rattle.halves.specs.How.{how_narrowed};
 
 // How a number fared when it was narrowed.
 #[derive(Drop)]
@@ -26,7 +26,7 @@ pub struct Narrowed {
 // at 143, and have ten digits behind the leading one, where a binary32 has thirteen more. A field of 255 is an infinity
 // or a NaN.
 pub(crate) fn how_narrowed(bits: u32) -> How
-    ensures { result ≡ howNarrowed bits }
+    ensures { result ≡ how_narrowed bits }
 {
     let exp = bits / 0x80_0000 % 256;
     let magnitude = bits % 0x8000_0000;

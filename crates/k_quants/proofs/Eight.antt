@@ -23,8 +23,8 @@ module _ {A : Type 0} where
       ∷ []
 
   -- a place of turn l is one of them
-  own-eight : (l : ℕ) (a b c d e f g h : A) (i : ℕ) → i < 256 → i % 32 ≡ l → Among i (eight l a b c d e f g h)
-  own-eight l a b c d e f g h i u t = go (i / 32) refl
+  own_eight : (l : ℕ) (a b c d e f g h : A) (i : ℕ) → i < 256 → i % 32 ≡ l → Among i (eight l a b c d e f g h)
+  own_eight l a b c d e f g h i u t = go (i / 32) refl
     where
       go : (j : ℕ) → j ≡ i / 32 → Among i (eight l a b c d e f g h)
       go zero q = inl (omega arith)
@@ -42,15 +42,15 @@ module _ {A : Type 0} where
   abbrev pub Streamed : (ℕ → A) → A → List A → ℕ → Type 0
   Streamed f z q l = Done f z (λ i. i % 32) 256 q l × (l ≤ 32)
 
-  pub streamed-none : (f : ℕ → A) (z : A) (q : List A) → length q ≡ 256 → Streamed f z q 0
-  streamed-none f z q n = (done_none f z (λ i. i % 32) 256 q n, omega arith)
+  pub streamed_none : (f : ℕ → A) (z : A) (q : List A) → length q ≡ 256 → Streamed f z q 0
+  streamed_none f z q n = (done_none f z (λ i. i % 32) 256 q n, omega arith)
 
   -- a turn more: each of its eight values is right
-  pub streamed-more : (f : ℕ → A) (z : A) (q : List A) (l : ℕ) (a b c d e g h k : A) → l < 32
+  pub streamed_more : (f : ℕ → A) (z : A) (q : List A) (l : ℕ) (a b c d e g h k : A) → l < 32
       → a ≡ f l → b ≡ f (32 + l) → c ≡ f (64 + l) → d ≡ f (96 + l) → e ≡ f (128 + l) → g ≡ f (160 + l) → h ≡ f (192 + l) → k ≡ f (224 + l)
       → Streamed f z q l → Streamed f z (stored q (eight l a b c d e g h k)) (l + 1)
-  streamed-more f z q l a b c d e g h k u p₀ p₁ p₂ p₃ p₄ p₅ p₆ p₇ s =
-      (done_more f z (λ i. i % 32) 256 q l (eight l a b c d e g h k) s.0 (p₀, (p₁, (p₂, (p₃, (p₄, (p₅, (p₆, (p₇, tt)))))))) (own-eight l a b c d e g h k), omega arith)
+  streamed_more f z q l a b c d e g h k u p₀ p₁ p₂ p₃ p₄ p₅ p₆ p₇ s =
+      (done_more f z (λ i. i % 32) 256 q l (eight l a b c d e g h k) s.0 (p₀, (p₁, (p₂, (p₃, (p₄, (p₅, (p₆, (p₇, tt)))))))) (own_eight l a b c d e g h k), omega arith)
 
-  pub streamed-all : (f : ℕ → A) (z : A) (q : List A) (l : ℕ) → 32 ≤ l → Streamed f z q l → q ≡ table f 256
-  streamed-all f z q l u s = done_all f z (λ i. i % 32) 256 q l s.0 (λ i h. omega arith)
+  pub streamed_all : (f : ℕ → A) (z : A) (q : List A) (l : ℕ) → 32 ≤ l → Streamed f z q l → q ≡ table f 256
+  streamed_all f z q l u s = done_all f z (λ i. i % 32) 256 q l s.0 (λ i h. omega arith)

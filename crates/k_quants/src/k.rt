@@ -1,14 +1,14 @@
 // The whole numbers of the K formats, 256 values to a block.
 ghost use Rattle.std.specs.Prelude.{◌≡◌, ◌+◌, ◌*◌, ◌<◌, pos, ◌-ℤ◌, length};
 ghost use Rattle.memory.specs.Lists.{table};
-ghost use Rattle.layouts.specs.K.{quantQ4K, quantQ5K, quantQ6K};
+ghost use Rattle.layouts.specs.K.{quant_q4k, quant_q5k, quant_q6k};
 
 use layouts::less;
 
 // Q4_K's 256 whole numbers, one of each sub-block a turn: eight streams, which are vectors.
 pub fn quants_q4k(block: &[u8]) -> [u8; 256]
     requires { length block.now ≡ 144 }
-    ensures { result ≡ table (quantQ4K block.now) 256 }
+    ensures { result ≡ table (quant_q4k block.now) 256 }
 {
     let mut q = [0u8; 256];
     for l in 0..32usize {
@@ -31,7 +31,7 @@ pub fn quants_q4k(block: &[u8]) -> [u8; 256]
 // Q5_K's 256 whole numbers, one of each sub-block a turn: byte l of the fifth bits has one for each.
 pub fn quants_q5k(block: &[u8]) -> [u8; 256]
     requires { length block.now ≡ 176 }
-    ensures { result ≡ table (quantQ5K block.now) 256 }
+    ensures { result ≡ table (quant_q5k block.now) 256 }
 {
     let mut q = [0u8; 256];
     for l in 0..32usize {
@@ -63,7 +63,7 @@ fn six_bits(nibble: u8, pair: u8) -> i8
 // Q6_K's 256 whole numbers, four of each half a turn.
 pub fn quants_q6k(block: &[u8]) -> [i8; 256]
     requires { length block.now ≡ 210 }
-    ensures { result ≡ table (quantQ6K block.now) 256 }
+    ensures { result ≡ table (quant_q6k block.now) 256 }
 {
     let mut q = [0i8; 256];
     for l in 0..32usize {

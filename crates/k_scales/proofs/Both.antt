@@ -7,26 +7,26 @@ use borrow.Author.Tests.{lt-ltb, le-ltb}
 use lib.ListN.{get_or}
 use lib.Ieee.{Float, nan}
 use Rattle.memory.specs.Lists.{table}
-use Rattle.memory.proofs.Filled.{getD-table}
-use Rattle.layouts.specs.K.{dScale, dminMinimum}
+use Rattle.memory.proofs.Filled.{get_or_table}
+use Rattle.layouts.specs.K.{d_scale, dmin_minimum}
 use Rattle.layouts.specs.declared.format.FormatK.TheVariants.{Q4K}
-use Rattle.k_scales.specs.Both.{scaleThenMinimum}
+use Rattle.k_scales.specs.Both.{scale_then_minimum}
 
 module _ (bs : List ℕ) (j : ℕ) (h : j < 8) where
-  pub scale-first : scaleThenMinimum bs j ≡ dScale Q4K bs j
-  unfolding scaleThenMinimum
-  scale-first = rw (lt-ltb j 8 h)
+  pub scale_first : scale_then_minimum bs j ≡ d_scale Q4K bs j
+  unfolding scale_then_minimum
+  scale_first = rw (lt-ltb j 8 h)
 
-  pub minimum-behind : scaleThenMinimum bs (j + 8) ≡ dminMinimum bs j
-  unfolding scaleThenMinimum
-  minimum-behind =
+  pub minimum_behind : scale_then_minimum bs (j + 8) ≡ dmin_minimum bs j
+  unfolding scale_then_minimum
+  minimum_behind =
       let back : j + 8 - 8 ≡ j = omega arith in
       rw (le-ltb (j + 8) 8 (omega arith), back)
 
   -- as they are read from the list that holds them
-  module _ (s : List Float) (e : s ≡ table (scaleThenMinimum bs) 16) where
-    pub scale_at : get_or s j nan ≡ dScale Q4K bs j
-    scale_at = rw e (getD-table (scaleThenMinimum bs) 16 j nan (omega arith) ∙ scale-first)
+  module _ (s : List Float) (e : s ≡ table (scale_then_minimum bs) 16) where
+    pub scale_at : get_or s j nan ≡ d_scale Q4K bs j
+    scale_at = rw e (get_or_table (scale_then_minimum bs) 16 j nan (omega arith) ∙ scale_first)
 
-    pub minimum-at : get_or s (j + 8) nan ≡ dminMinimum bs j
-    minimum-at = rw e (getD-table (scaleThenMinimum bs) 16 (j + 8) nan (omega arith) ∙ minimum-behind)
+    pub minimum_at : get_or s (j + 8) nan ≡ dmin_minimum bs j
+    minimum_at = rw e (get_or_table (scale_then_minimum bs) 16 (j + 8) nan (omega arith) ∙ minimum_behind)

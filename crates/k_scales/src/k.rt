@@ -1,8 +1,8 @@
 // The scales and the minimums of the K formats.
 ghost use Rattle.std.specs.Prelude.{◌≡◌, ◌≤◌, ◌<◌, length};
 ghost use Rattle.memory.specs.Lists.{table};
-ghost use Rattle.layouts.specs.K.{scaleQ4K, minimumQ4K, dScale};
-ghost use Rattle.k_scales.specs.Both.{scaleThenMinimum};
+ghost use Rattle.layouts.specs.K.{scale_q4k, minimum_q4k, d_scale};
+ghost use Rattle.k_scales.specs.Both.{scale_then_minimum};
 
 use layouts::FormatK;
 
@@ -10,7 +10,7 @@ use layouts::FormatK;
 // minimums.
 pub fn scale_q4k(block: &[u8], j: usize) -> u8
     requires { (16 ≤ length block.now) × (j < 8) }
-    ensures { (result ≡ scaleQ4K block.now j) × (result < 64) }
+    ensures { (result ≡ scale_q4k block.now j) × (result < 64) }
 {
     if j < 4 {
         block[4 + j] % 64
@@ -22,7 +22,7 @@ pub fn scale_q4k(block: &[u8], j: usize) -> u8
 // The minimum of Q4_K's sub-block j, six bits.
 pub fn minimum_q4k(block: &[u8], j: usize) -> u8
     requires { (16 ≤ length block.now) × (j < 8) }
-    ensures { (result ≡ minimumQ4K block.now j) × (result < 64) }
+    ensures { (result ≡ minimum_q4k block.now j) × (result < 64) }
 {
     if j < 4 {
         block[8 + j] % 64
@@ -36,7 +36,7 @@ pub fn minimum_q4k(block: &[u8], j: usize) -> u8
 // the block's place and length written to memory and read once more, and a second array is copied.
 pub fn scales_and_minimums(block: &[u8]) -> [f32; 16]
     requires { 16 ≤ length block.now }
-    ensures { result ≡ table (scaleThenMinimum block.now) 16 }
+    ensures { result ≡ table (scale_then_minimum block.now) 16 }
 {
     let d = halves::f16_to_f32(numbers::le_u16(block[0], block[1]));
     let dmin = halves::f16_to_f32(numbers::le_u16(block[2], block[3]));
@@ -51,7 +51,7 @@ pub fn scales_and_minimums(block: &[u8]) -> [f32; 16]
 // Q6_K's sixteen products d*scale, one for each run of 16.
 pub fn scales_q6k(block: &[u8]) -> [f32; 16]
     requires { length block.now ≡ 210 }
-    ensures { result ≡ table (dScale FormatK.Q6K block.now) 16 }
+    ensures { result ≡ table (d_scale FormatK.Q6K block.now) 16 }
 {
     let d = halves::f16_to_f32(numbers::le_u16(block[208], block[209]));
     let mut s = [0.0f32; 16];

@@ -3,7 +3,7 @@
 use Rattle.std.specs.Prelude.{ℕ, zero, suc, ◌+◌, ◌*◌, List, set, Float}
 use Rattle.memory.specs.Lists.{filled}
 use Rattle.layouts.specs.declared.format.Format.{Format}
-use Rattle.layers_cpu.specs.Says.{rowWeight}
+use Rattle.layers_cpu.specs.Says.{row_weight}
 
 -- y, in rows of n places, after place o of its first b rows
 unfoldable pub column : (ℕ → Float) → ℕ → ℕ → List Float → ℕ → List Float
@@ -16,6 +16,6 @@ columns value batch n y zero = y
 columns value batch n y (suc o) = column (λ b. value b o) n o (columns value batch n y o) batch
 
 -- scratch after the first o rows of n weights: the last of them decoded
-unfoldable pub scratchOf : Format → List ℕ → ℕ → List Float → ℕ → List Float
-scratchOf f w n scratch zero = scratch
-scratchOf f w n scratch (suc o) = filled (rowWeight f w n o) scratch n
+unfoldable pub scratch_of : Format → List ℕ → ℕ → List Float → ℕ → List Float
+scratch_of f w n scratch zero = scratch
+scratch_of f w n scratch (suc o) = filled (row_weight f w n o) scratch n

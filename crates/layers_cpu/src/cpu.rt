@@ -1,12 +1,12 @@
 // The `_cpu` layers: a row of weights is decoded into scratch once, and serves every row of readings.
 ghost use Rattle.std.specs.Prelude.{◌≡◌, ◌*◌, ◌≤◌, ◌<◌, length};
-ghost use Rattle.refusals.specs.Said.{done, outcomeSays};
-ghost use Rattle.refusals.specs.Sizes.{mostIn, mostOut, mostBatch};
+ghost use Rattle.refusals.specs.Said.{done, outcome_says};
+ghost use Rattle.refusals.specs.Sizes.{most_in, most_out, most_batch};
 ghost use Rattle.sums_lanes.specs.Lanes.{products};
-ghost use Rattle.sums.specs.Rows.{rowSum};
-ghost use Rattle.layers_shape.specs.Shapes.{shape, readingRow};
-ghost use Rattle.layers_cpu_checks.specs.Refusals.{cpuRefusal};
-ghost use Rattle.layers_cpu.specs.Says.{cpuSays};
+ghost use Rattle.sums.specs.Rows.{row_sum};
+ghost use Rattle.layers_shape.specs.Shapes.{shape, reading_row};
+ghost use Rattle.layers_cpu_checks.specs.Refusals.{cpu_refusal};
+ghost use Rattle.layers_cpu.specs.Says.{cpu_says};
 ghost use Rattle.layers_cpu.specs.Columns.{column};
 
 use decoded_rows::decode_row;
@@ -17,12 +17,12 @@ use refusals::{Answer, Check, Outcome, passed_on};
 
 // Place o of every row of the output: the dot of each row of readings and one row of weights, decoded.
 fn fill_column(x: &[f32], row: &[f32], y: &mut [f32], s: Shape, o: usize) -> Outcome
-    requires batch_le_most_batch { (s.batch ≤ mostBatch) × (s.in_feat ≤ mostIn) × (s.out_feat ≤ mostOut) × (o < s.out_feat) }
+    requires batch_le_most_batch { (s.batch ≤ most_batch) × (s.in_feat ≤ most_in) × (s.out_feat ≤ most_out) × (o < s.out_feat) }
     requires in_feat_in_bounds { (s.batch * s.in_feat ≤ length x.now) × (length row.now ≡ s.in_feat)
         × (s.batch * s.out_feat ≤ length y.old) }
-    ensures { (outcomeSays result ≡ done)
+    ensures { (outcome_says result ≡ done)
         × (y.new
-        ≡ column (λ b. rowSum (products (readingRow x.now s b) row.now) s.in_feat)
+        ≡ column (λ b. row_sum (products (reading_row x.now s b) row.now) s.in_feat)
         s.out_feat o y.old s.batch) }
 {
     let n = s.in_feat;
@@ -48,10 +48,10 @@ fn all_columns(
     scratch: &mut [f32],
     s: Shape,
 ) -> Outcome
-    requires { cpuRefusal format s (length x.now) (length w.now) (length y.old) (length scratch.old)
+    requires { cpu_refusal format s (length x.now) (length w.now) (length y.old) (length scratch.old)
         ≡ done }
-    ensures { (outcomeSays result, (y.new, scratch.new))
-        ≡ cpuSays format s x.now w.now y.old scratch.old }
+    ensures { (outcome_says result, (y.new, scratch.new))
+        ≡ cpu_says format s x.now w.now y.old scratch.old }
 {
     let n = s.in_feat;
     if s.batch == 0 {
@@ -75,8 +75,8 @@ fn cpu_layer(
     scratch: &mut [f32],
     s: Shape,
 ) -> Outcome
-    ensures { (outcomeSays result, (y.new, scratch.new))
-        ≡ cpuSays format s x.now w.now y.old scratch.old }
+    ensures { (outcome_says result, (y.new, scratch.new))
+        ≡ cpu_says format s x.now w.now y.old scratch.old }
 {
     let checked = cpu_refusal(format, s, x.len(), w.len(), y.len(), scratch.len());
     if let Check::Refused(refusal) = checked {
@@ -96,8 +96,8 @@ pub fn linear_q4_k_cpu(
     in_feat: usize,
     out_feat: usize,
 ) -> Outcome
-    ensures { (outcomeSays result, (y.new, scratch.new))
-        ≡ cpuSays (Format.OfK FormatK.Q4K) (shape batch in_feat out_feat) x.now w.now
+    ensures { (outcome_says result, (y.new, scratch.new))
+        ≡ cpu_says (Format.OfK FormatK.Q4K) (shape batch in_feat out_feat) x.now w.now
         y.old scratch.old }
 {
     let s = Shape {
@@ -118,8 +118,8 @@ pub fn linear_q6_k_cpu(
     in_feat: usize,
     out_feat: usize,
 ) -> Outcome
-    ensures { (outcomeSays result, (y.new, scratch.new))
-        ≡ cpuSays (Format.OfK FormatK.Q6K) (shape batch in_feat out_feat) x.now w.now
+    ensures { (outcome_says result, (y.new, scratch.new))
+        ≡ cpu_says (Format.OfK FormatK.Q6K) (shape batch in_feat out_feat) x.now w.now
         y.old scratch.old }
 {
     let s = Shape {
@@ -140,8 +140,8 @@ pub fn linear_q4_0_cpu(
     in_feat: usize,
     out_feat: usize,
 ) -> Outcome
-    ensures { (outcomeSays result, (y.new, scratch.new))
-        ≡ cpuSays (Format.Of32 Format32.Q40) (shape batch in_feat out_feat) x.now w.now
+    ensures { (outcome_says result, (y.new, scratch.new))
+        ≡ cpu_says (Format.Of32 Format32.Q40) (shape batch in_feat out_feat) x.now w.now
         y.old scratch.old }
 {
     let s = Shape {
@@ -162,8 +162,8 @@ pub fn linear_q4_0_ggml_cpu(
     in_feat: usize,
     out_feat: usize,
 ) -> Outcome
-    ensures { (outcomeSays result, (y.new, scratch.new))
-        ≡ cpuSays (Format.Of32 Format32.Q40Ggml) (shape batch in_feat out_feat) x.now w.now
+    ensures { (outcome_says result, (y.new, scratch.new))
+        ≡ cpu_says (Format.Of32 Format32.Q40Ggml) (shape batch in_feat out_feat) x.now w.now
         y.old scratch.old }
 {
     let s = Shape {
@@ -184,8 +184,8 @@ pub fn linear_iq4_nl_cpu(
     in_feat: usize,
     out_feat: usize,
 ) -> Outcome
-    ensures { (outcomeSays result, (y.new, scratch.new))
-        ≡ cpuSays (Format.Of32 Format32.Iq4Nl) (shape batch in_feat out_feat) x.now w.now
+    ensures { (outcome_says result, (y.new, scratch.new))
+        ≡ cpu_says (Format.Of32 Format32.Iq4Nl) (shape batch in_feat out_feat) x.now w.now
         y.old scratch.old }
 {
     let s = Shape {

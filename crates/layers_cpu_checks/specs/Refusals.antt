@@ -4,7 +4,7 @@ use Rattle.std.specs.Prelude.{ℕ, ◌*◌, ◌/◌, ◌%◌, not, cond, ltb, eq
 use Rattle.refusals.specs.declared.Refusal.{Refusal}
 use Rattle.refusals.specs.Said.{Said, done, no}
 use Rattle.refusals.specs.Refusals.{given}
-use Rattle.layouts.specs.Formats.{bytes32, bytesK}
+use Rattle.layouts.specs.Formats.{bytes32, bytes_k}
 use Rattle.layouts.specs.Weights.{values_of}
 use Rattle.layouts.specs.declared.format.Format.{Format}
 use Rattle.layouts.specs.declared.format.Format.TheVariants.{Of32, OfK}
@@ -12,26 +12,26 @@ use Rattle.layers_shape.specs.declared.Shape.{Shape}
 use Rattle.layers_shape.specs.Shapes.{oversize}
 
 -- any other weights than needed: 3 where there are fewer, and 14 where there are more
-abbrev pub otherWeights : (found needed : ℕ) → Refusal
-otherWeights found needed = cond (ltb found needed) (no 3) (no 14)
+abbrev pub other_weights : (found needed : ℕ) → Refusal
+other_weights found needed = cond (ltb found needed) (no 3) (no 14)
 
 -- Why a `_cpu` layer says no, given so many readings, weight bytes, output and scratch places. Any other length than
 -- what is needed is refused, but for scratch, which may be longer. The K formats look at the readings and the output
 -- first, and need no whole blocks to a row: two rows of 128 share one.
-unfoldable pub cpuRefusal : Format → Shape → (readings weights places scratch : ℕ) → Said (Unit {0})
-cpuRefusal (OfK f) s readings weights places scratch =
+unfoldable pub cpu_refusal : Format → Shape → (readings weights places scratch : ℕ) → Said (Unit {0})
+cpu_refusal (OfK f) s readings weights places scratch =
     given (no 6) (oversize s)
     (given (no 4) (not (eqb readings (s.batch * s.in_feat)))
     (given (no 5) (not (eqb places (s.batch * s.out_feat)))
-    (given (no 1) (not (eqb (weights % bytesK f) 0))
-    (given (otherWeights (values_of (OfK f) weights) (s.out_feat * s.in_feat))
+    (given (no 1) (not (eqb (weights % bytes_k f) 0))
+    (given (other_weights (values_of (OfK f) weights) (s.out_feat * s.in_feat))
     (not (eqb (values_of (OfK f) weights) (s.out_feat * s.in_feat)))
     (given (no 5) (ltb scratch s.in_feat)
     done)))))
-cpuRefusal (Of32 f) s readings weights places scratch =
+cpu_refusal (Of32 f) s readings weights places scratch =
     given (no 6) (oversize s)
     (given (no 2) (not (eqb (s.in_feat % 32) 0))
-    (given (otherWeights weights (s.out_feat * (s.in_feat / 32 * bytes32 f)))
+    (given (other_weights weights (s.out_feat * (s.in_feat / 32 * bytes32 f)))
     (not (eqb weights (s.out_feat * (s.in_feat / 32 * bytes32 f))))
     (given (no 4) (not (eqb readings (s.batch * s.in_feat)))
     (given (no 5) (not (eqb places (s.batch * s.out_feat)))

@@ -1,7 +1,7 @@
 // Why a `_cpu` layer says no.
 ghost use Rattle.std.specs.Prelude.{◌≡◌, ◌^◌, ◌<◌};
-ghost use Rattle.refusals.specs.Said.{checkSays};
-ghost use Rattle.layers_cpu_checks.specs.Refusals.{otherWeights, cpuRefusal};
+ghost use Rattle.refusals.specs.Said.{check_says};
+ghost use Rattle.layers_cpu_checks.specs.Refusals.{other_weights, cpu_refusal};
 
 use layers_shape::Shape;
 use layouts::{Format, Format32, FormatK};
@@ -9,7 +9,7 @@ use refusals::{Check, Refusal};
 
 // The refusal of any other weights than needed: there are fewer, or there are more.
 fn other_weights(found: usize, needed: usize) -> Refusal
-    ensures { result ≡ otherWeights found needed }
+    ensures { result ≡ other_weights found needed }
 {
     if found < needed {
         return refusals::WEIGHTS_SHORT;
@@ -28,7 +28,7 @@ fn cpu_k_refusal(
     scratch: usize,
 ) -> Check
     requires { weights < 2 ^ 63 }
-    ensures { checkSays result ≡ cpuRefusal (Format.OfK format) s readings weights places scratch }
+    ensures { check_says result ≡ cpu_refusal (Format.OfK format) s readings weights places scratch }
 {
     if layers_shape::is_oversize(s) {
         return Check::Refused(refusals::TOO_LARGE);
@@ -63,7 +63,7 @@ fn cpu_32_refusal(
     places: usize,
     scratch: usize,
 ) -> Check
-    ensures { checkSays result ≡ cpuRefusal (Format.Of32 format) s readings weights places scratch }
+    ensures { check_says result ≡ cpu_refusal (Format.Of32 format) s readings weights places scratch }
 {
     if layers_shape::is_oversize(s) {
         return Check::Refused(refusals::TOO_LARGE);
@@ -97,7 +97,7 @@ pub fn cpu_refusal(
     scratch: usize,
 ) -> Check
     requires { weights < 2 ^ 63 }
-    ensures { checkSays result ≡ cpuRefusal format s readings weights places scratch }
+    ensures { check_says result ≡ cpu_refusal format s readings weights places scratch }
 {
     match format {
         Format::Of32(f) => cpu_32_refusal(f, s, readings, weights, places, scratch),

@@ -1,10 +1,10 @@
 // The fused layers: no decoded row is held.
 ghost use Rattle.std.specs.Prelude.{◌≡◌, ◌*◌, ◌%◌, ◌≤◌, length};
-ghost use Rattle.refusals.specs.Said.{done, outcomeSays};
-ghost use Rattle.refusals.specs.Sizes.{mostIn, mostOut};
+ghost use Rattle.refusals.specs.Said.{done, outcome_says};
+ghost use Rattle.refusals.specs.Sizes.{most_in, most_out};
 ghost use Rattle.memory.specs.Lists.{table};
-ghost use Rattle.layers_shape.specs.Shapes.{shape, rowBytes, layerRefusal};
-ghost use Rattle.layers_fused.specs.Says.{fusedDotAt, fusedLayerSays};
+ghost use Rattle.layers_shape.specs.Shapes.{shape, row_bytes, layer_refusal};
+ghost use Rattle.layers_fused.specs.Says.{fused_dot_at, fused_layer_says};
 
 use layers_shape::{Shape, layer_refusal};
 use layouts::FormatK;
@@ -12,11 +12,11 @@ use refusals::{Answer, Check, Outcome, passed_on};
 
 // The outputs of one row of readings, a place for each row of weights.
 fn one_row(format: FormatK, x: &[f32], w: &[u8], y: &mut [f32]) -> Outcome
-    requires { (length x.now ≤ mostIn) × (length x.now % 256 ≡ 0) × (length y.old ≤ mostOut)
-        × (length y.old * rowBytes format (length x.now) ≤ length w.now) }
-    ensures { (outcomeSays result ≡ done)
+    requires { (length x.now ≤ most_in) × (length x.now % 256 ≡ 0) × (length y.old ≤ most_out)
+        × (length y.old * row_bytes format (length x.now) ≤ length w.now) }
+    ensures { (outcome_says result ≡ done)
         × (y.new
-        ≡ table (fusedDotAt format x.now w.now (length x.now))
+        ≡ table (fused_dot_at format x.now w.now (length x.now))
         (length y.old)) }
 {
     let n = x.len();
@@ -35,9 +35,9 @@ fn one_row(format: FormatK, x: &[f32], w: &[u8], y: &mut [f32]) -> Outcome
 
 // The outputs of every row of readings.
 fn all_rows(format: FormatK, x: &[f32], w: &[u8], y: &mut [f32], s: Shape) -> Outcome
-    requires { layerRefusal format s (length x.now) (length w.now) (length y.old) ≡ done }
-    ensures { (outcomeSays result, y.new)
-        ≡ fusedLayerSays format s x.now w.now y.old }
+    requires { layer_refusal format s (length x.now) (length w.now) (length y.old) ≡ done }
+    ensures { (outcome_says result, y.new)
+        ≡ fused_layer_says format s x.now w.now y.old }
 {
     let n = s.in_feat;
     let outs = s.out_feat;
@@ -55,8 +55,8 @@ fn all_rows(format: FormatK, x: &[f32], w: &[u8], y: &mut [f32], s: Shape) -> Ou
 }
 
 fn fused_layer(format: FormatK, x: &[f32], w: &[u8], y: &mut [f32], s: Shape) -> Outcome
-    ensures { (outcomeSays result, y.new)
-        ≡ fusedLayerSays format s x.now w.now y.old }
+    ensures { (outcome_says result, y.new)
+        ≡ fused_layer_says format s x.now w.now y.old }
 {
     if let Check::Refused(refusal) = layer_refusal(format, s, x.len(), w.len(), y.len()) {
         return Outcome::Refused(refusal);
@@ -73,8 +73,8 @@ pub fn linear_q4_k_fused(
     in_feat: usize,
     out_feat: usize,
 ) -> Outcome
-    ensures { (outcomeSays result, y.new)
-        ≡ fusedLayerSays FormatK.Q4K (shape batch in_feat out_feat) x.now w.now
+    ensures { (outcome_says result, y.new)
+        ≡ fused_layer_says FormatK.Q4K (shape batch in_feat out_feat) x.now w.now
         y.old }
 {
     let s = Shape {
@@ -94,8 +94,8 @@ pub fn linear_q5_k_fused(
     in_feat: usize,
     out_feat: usize,
 ) -> Outcome
-    ensures { (outcomeSays result, y.new)
-        ≡ fusedLayerSays FormatK.Q5K (shape batch in_feat out_feat) x.now w.now
+    ensures { (outcome_says result, y.new)
+        ≡ fused_layer_says FormatK.Q5K (shape batch in_feat out_feat) x.now w.now
         y.old }
 {
     let s = Shape {
@@ -115,8 +115,8 @@ pub fn linear_q6_k_fused(
     in_feat: usize,
     out_feat: usize,
 ) -> Outcome
-    ensures { (outcomeSays result, y.new)
-        ≡ fusedLayerSays FormatK.Q6K (shape batch in_feat out_feat) x.now w.now
+    ensures { (outcome_says result, y.new)
+        ≡ fused_layer_says FormatK.Q6K (shape batch in_feat out_feat) x.now w.now
         y.old }
 {
     let s = Shape {

@@ -1,8 +1,8 @@
 // The calls. Each refuses 6, 2, 3, 4 and 5, in this order.
 ghost use Rattle.std.specs.Prelude.{◌≡◌};
-ghost use Rattle.refusals.specs.Said.{outcomeSays};
+ghost use Rattle.refusals.specs.Said.{outcome_says};
 ghost use Rattle.layers_shape.specs.Shapes.{shape};
-ghost use Rattle.layers_integer.specs.Says.{integerLayerSays};
+ghost use Rattle.layers_integer.specs.Says.{integer_layer_says};
 
 use dots_kept_row::Meeting;
 use layers_integer_row::{rows_of_16, rows_of_512};
@@ -18,8 +18,8 @@ fn integer_layer(
     y: &mut [f32],
     s: Shape,
 ) -> Outcome
-    ensures { (outcomeSays result, y.new)
-        ≡ integerLayerSays format meeting s x.now w.now y.old }
+    ensures { (outcome_says result, y.new)
+        ≡ integer_layer_says format meeting s x.now w.now y.old }
 {
     if let Check::Refused(refusal) = layer_refusal(format, s, x.len(), w.len(), y.len()) {
         return Outcome::Refused(refusal);
@@ -41,8 +41,8 @@ pub fn linear_q4_k_integer(
     in_feat: usize,
     out_feat: usize,
 ) -> Outcome
-    ensures { (outcomeSays result, y.new)
-        ≡ integerLayerSays FormatK.Q4K Meeting.Tree (shape batch in_feat out_feat) x.now w.now
+    ensures { (outcome_says result, y.new)
+        ≡ integer_layer_says FormatK.Q4K Meeting.Tree (shape batch in_feat out_feat) x.now w.now
         y.old }
 {
     let s = Shape {
@@ -62,8 +62,8 @@ pub fn linear_q5_k_integer(
     in_feat: usize,
     out_feat: usize,
 ) -> Outcome
-    ensures { (outcomeSays result, y.new)
-        ≡ integerLayerSays FormatK.Q5K Meeting.Tree (shape batch in_feat out_feat) x.now w.now
+    ensures { (outcome_says result, y.new)
+        ≡ integer_layer_says FormatK.Q5K Meeting.Tree (shape batch in_feat out_feat) x.now w.now
         y.old }
 {
     let s = Shape {
@@ -83,8 +83,8 @@ pub fn linear_q6_k_integer(
     in_feat: usize,
     out_feat: usize,
 ) -> Outcome
-    ensures { (outcomeSays result, y.new)
-        ≡ integerLayerSays FormatK.Q6K Meeting.Tree (shape batch in_feat out_feat) x.now w.now
+    ensures { (outcome_says result, y.new)
+        ≡ integer_layer_says FormatK.Q6K Meeting.Tree (shape batch in_feat out_feat) x.now w.now
         y.old }
 {
     let s = Shape {
@@ -104,8 +104,8 @@ pub fn linear_q4_k_integer_rs(
     in_feat: usize,
     out_feat: usize,
 ) -> Outcome
-    ensures { (outcomeSays result, y.new)
-        ≡ integerLayerSays FormatK.Q4K Meeting.Running (shape batch in_feat out_feat) x.now
+    ensures { (outcome_says result, y.new)
+        ≡ integer_layer_says FormatK.Q4K Meeting.Running (shape batch in_feat out_feat) x.now
         w.now y.old }
 {
     let s = Shape {
@@ -125,8 +125,8 @@ pub fn linear_q5_k_integer_rs(
     in_feat: usize,
     out_feat: usize,
 ) -> Outcome
-    ensures { (outcomeSays result, y.new)
-        ≡ integerLayerSays FormatK.Q5K Meeting.Running (shape batch in_feat out_feat) x.now
+    ensures { (outcome_says result, y.new)
+        ≡ integer_layer_says FormatK.Q5K Meeting.Running (shape batch in_feat out_feat) x.now
         w.now y.old }
 {
     let s = Shape {
@@ -146,8 +146,8 @@ pub fn linear_q6_k_integer_rs(
     in_feat: usize,
     out_feat: usize,
 ) -> Outcome
-    ensures { (outcomeSays result, y.new)
-        ≡ integerLayerSays FormatK.Q6K Meeting.Running (shape batch in_feat out_feat) x.now
+    ensures { (outcome_says result, y.new)
+        ≡ integer_layer_says FormatK.Q6K Meeting.Running (shape batch in_feat out_feat) x.now
         w.now y.old }
 {
     let s = Shape {

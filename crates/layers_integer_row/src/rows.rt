@@ -1,13 +1,13 @@
 // The outputs of a layer that does not refuse, a row of readings at a time.
 ghost use Rattle.std.specs.Prelude.{◌≡◌, ◌*◌, ◌/◌, ◌≤◌, length};
 ghost use Rattle.refusals.specs.Said.{done};
-ghost use Rattle.refusals.specs.Sizes.{mostOut};
+ghost use Rattle.refusals.specs.Sizes.{most_out};
 ghost use Rattle.memory.specs.Lists.{table};
-ghost use Rattle.layouts.specs.Formats.{bytesK};
-ghost use Rattle.layers_shape.specs.Shapes.{layerRefusal};
+ghost use Rattle.layouts.specs.Formats.{bytes_k};
+ghost use Rattle.layers_shape.specs.Shapes.{layer_refusal};
 ghost use Rattle.dots_kept_row.specs.Inner.{KeptRoom, KeptRow};
-ghost use Rattle.layers_integer_row.specs.Inner.{keptRowDot};
-ghost use Rattle.layers_integer_row.specs.Outputs.{integerOutputs};
+ghost use Rattle.layers_integer_row.specs.Inner.{kept_row_dot};
+ghost use Rattle.layers_integer_row.specs.Outputs.{integer_outputs};
 
 use dots_kept_row::{Meeting, keep_row, kept_row_dot};
 use layers_shape::Shape;
@@ -24,11 +24,11 @@ fn one_row(
     dots: &mut [f32],
     y: &mut [f32],
 )
-    requires { (length dots.old ≤ 512) × (length y.old ≤ mostOut)
-        × (length y.old * (length dots.old * bytesK format) ≤ length w.now)
+    requires { (length dots.old ≤ 512) × (length y.old ≤ most_out)
+        × (length y.old * (length dots.old * bytes_k format) ≤ length w.now)
         × KeptRow (length dots.old) ds.now qs.now sums.now }
     ensures { y.new
-        ≡ table (keptRowDot format meeting w.now ds.now qs.now sums.now
+        ≡ table (kept_row_dot format meeting w.now ds.now qs.now sums.now
         (length dots.old)) (length y.old) }
 {
     let size = dots.len() * layouts::block_bytes(Format::OfK(format));
@@ -52,10 +52,10 @@ fn all_rows(
     dots: &mut [f32],
     y: &mut [f32],
 )
-    requires { (layerRefusal format s (length x.now) (length w.now) (length y.old) ≡ done)
+    requires { (layer_refusal format s (length x.now) (length w.now) (length y.old) ≡ done)
         × (length dots.old ≡ s.in_feat / 256) × KeptRoom (s.in_feat / 256) ds.old qs.old sums.old }
     ensures { y.new
-        ≡ integerOutputs format meeting s x.now w.now y.old }
+        ≡ integer_outputs format meeting s x.now w.now y.old }
 {
     let n = s.in_feat;
     let outs = s.out_feat;
@@ -71,10 +71,10 @@ fn all_rows(
 
 // Rows of at most 16 blocks: to clear room for 512 takes longer than such a row's dot.
 pub fn rows_of_16(format: FormatK, meeting: Meeting, x: &[f32], w: &[u8], y: &mut [f32], s: Shape)
-    requires { (layerRefusal format s (length x.now) (length w.now) (length y.old) ≡ done)
+    requires { (layer_refusal format s (length x.now) (length w.now) (length y.old) ≡ done)
         × (s.in_feat ≤ 4096) }
     ensures { y.new
-        ≡ integerOutputs format meeting s x.now w.now y.old }
+        ≡ integer_outputs format meeting s x.now w.now y.old }
 {
     let blocks = s.in_feat / 256;
     let mut ds = [0.0f32; 16];
@@ -97,9 +97,9 @@ pub fn rows_of_16(format: FormatK, meeting: Meeting, x: &[f32], w: &[u8], y: &mu
 
 // Rows of at most 512 blocks, which is every row.
 pub fn rows_of_512(format: FormatK, meeting: Meeting, x: &[f32], w: &[u8], y: &mut [f32], s: Shape)
-    requires { layerRefusal format s (length x.now) (length w.now) (length y.old) ≡ done }
+    requires { layer_refusal format s (length x.now) (length w.now) (length y.old) ≡ done }
     ensures { y.new
-        ≡ integerOutputs format meeting s x.now w.now y.old }
+        ≡ integer_outputs format meeting s x.now w.now y.old }
 {
     let blocks = s.in_feat / 256;
     let mut ds = [0.0f32; 512];

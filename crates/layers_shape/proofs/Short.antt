@@ -2,11 +2,11 @@
 use mathlib.Core.Path.{sym, subst}
 use Prim.Native.Nat.{ℕ, ◌*◌, ◌/◌, ◌<◌}
 use native.Mathlib.Nat.{mul_assoc}
-use Rattle.layouts.specs.Formats.{bytesK}
+use Rattle.layouts.specs.Formats.{bytes_k}
 use Rattle.layouts.specs.declared.format.FormatK.{FormatK}
-use Rattle.layouts.proofs.Short.{short-of-bytes}
-use Rattle.layers_shape.specs.Shapes.{weightBytes, layerShort}
+use Rattle.layouts.proofs.Short.{short_of_bytes}
+use Rattle.layers_shape.specs.Shapes.{weight_bytes, layer_short}
 
-pub short-of-a-layer : (f : FormatK) (inFeat outFeat weights : ℕ) → weights < weightBytes f inFeat outFeat → (layerShort f inFeat outFeat weights).found < outFeat * (inFeat / 256)
-short-of-a-layer f inFeat outFeat weights h =
-    short-of-bytes f weights (outFeat * (inFeat / 256)) (subst (λ (k : ℕ). weights < k) (sym (mul_assoc outFeat (inFeat / 256) (bytesK f))) h)
+pub short_of_a_layer : (f : FormatK) (in_feat out_feat weights : ℕ) → weights < weight_bytes f in_feat out_feat → (layer_short f in_feat out_feat weights).found < out_feat * (in_feat / 256)
+short_of_a_layer f in_feat out_feat weights h =
+    short_of_bytes f weights (out_feat * (in_feat / 256)) (subst (λ (k : ℕ). weights < k) (sym (mul_assoc out_feat (in_feat / 256) (bytes_k f))) h)

@@ -1,8 +1,8 @@
 // A layer's shape, and why a layer whose rows are whole K blocks says no: the fused, integer and `_rs` layers.
 ghost use Rattle.std.specs.Prelude.{◌≡◌, ◌≤◌};
-ghost use Rattle.refusals.specs.Said.{checkSays};
-ghost use Rattle.refusals.specs.Sizes.{mostIn, mostOut};
-ghost use Rattle.layers_shape.specs.Shapes.{oversize, rowBytes, weightBytes, layerShort, layerRefusal};
+ghost use Rattle.refusals.specs.Said.{check_says};
+ghost use Rattle.refusals.specs.Sizes.{most_in, most_out};
+ghost use Rattle.layers_shape.specs.Shapes.{oversize, row_bytes, weight_bytes, layer_short, layer_refusal};
 
 use layouts::{Format, FormatK};
 use refusals::{Check, Refusal};
@@ -30,24 +30,24 @@ pub fn is_oversize(s: Shape) -> bool
 
 // The bytes of a row of n weights, whole blocks.
 pub fn row_bytes(format: FormatK, n: usize) -> usize
-    requires { n ≤ mostIn }
-    ensures { result ≡ rowBytes format n }
+    requires { n ≤ most_in }
+    ensures { result ≡ row_bytes format n }
 {
     n / 256 * layouts::block_bytes(Format::OfK(format))
 }
 
 // The bytes of a layer's weights.
 pub fn weight_bytes(format: FormatK, in_feat: usize, out_feat: usize) -> usize
-    requires { (in_feat ≤ mostIn) × (out_feat ≤ mostOut) }
-    ensures { result ≡ weightBytes format in_feat out_feat }
+    requires { (in_feat ≤ most_in) × (out_feat ≤ most_out) }
+    ensures { result ≡ weight_bytes format in_feat out_feat }
 {
     out_feat * row_bytes(format, in_feat)
 }
 
 // The refusal of fewer weight bytes than a layer's weights have, with the blocks that were found and that are needed.
 pub fn layer_short(format: FormatK, in_feat: usize, out_feat: usize, weights: usize) -> Refusal
-    requires { (in_feat ≤ mostIn) × (out_feat ≤ mostOut) }
-    ensures { result ≡ layerShort format in_feat out_feat weights }
+    requires { (in_feat ≤ most_in) × (out_feat ≤ most_out) }
+    ensures { result ≡ layer_short format in_feat out_feat weights }
 {
     layouts::weights_short(format, weights, out_feat * (in_feat / 256))
 }
@@ -61,7 +61,7 @@ pub fn layer_refusal(
     weights: usize,
     places: usize,
 ) -> Check
-    ensures { checkSays result ≡ layerRefusal format s readings weights places }
+    ensures { check_says result ≡ layer_refusal format s readings weights places }
 {
     if is_oversize(s) {
         return Check::Refused(refusals::TOO_LARGE);

@@ -6,10 +6,10 @@ use native.Mathlib.Omega.{arith}
 use lib.IntN.{ℤ}
 use lib.ListN.{get_or}
 use Rattle.numbers.specs.Fields.{signed}
-use Rattle.layouts.specs.K.{scaleK, scaleQ6K}
+use Rattle.layouts.specs.K.{scale_k, scale_q6k}
 use Rattle.layouts.specs.declared.format.FormatK.TheVariants.{Q6K}
 
 -- Two halves of 128, each with 8 scales; in a half, for l below 32, values l, l+32, l+64, l+96 take scales l/16, plus 0, 2, 4, 6.
-pub scale-in-its-half : (bs : List ℕ) (i : ℕ) → scaleK Q6K bs i ≡ signed (get_or bs (192 + (8 * (i / 128) + (i % 128 % 32 / 16 + 2 * (i % 128 / 32)))) 0)
-unfolding scaleQ6K
-scale-in-its-half bs i = let e : i / 16 ≡ 8 * (i / 128) + (i % 128 % 32 / 16 + 2 * (i % 128 / 32)) = omega arith in ap (λ (k : ℕ). signed (get_or bs (192 + k) 0)) e
+pub scale_in_its_half : (bs : List ℕ) (i : ℕ) → scale_k Q6K bs i ≡ signed (get_or bs (192 + (8 * (i / 128) + (i % 128 % 32 / 16 + 2 * (i % 128 / 32)))) 0)
+unfolding scale_q6k
+scale_in_its_half bs i = let e : i / 16 ≡ 8 * (i / 128) + (i % 128 % 32 / 16 + 2 * (i % 128 / 32)) = omega arith in ap (λ (k : ℕ). signed (get_or bs (192 + k) 0)) e

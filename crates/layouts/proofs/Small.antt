@@ -18,8 +18,8 @@ small : (n k : ℕ) → n < 128 → k < 128 → mag (pos n -ℤ pos k) < 128
 small n zero h l = omega arith
 small n (suc k) h l = small_by (ltb n (suc k)) (suc k - suc n) (n - suc k) (omega arith) (omega arith)
 
-pub difference-fits : (n k : ℕ) → n < 128 → k < 128 → SFits w8 (to_z w8 n -ℤ to_z w8 k)
-difference-fits n k h l = rw (to_z_pos w8 n h, to_z_pos w8 k l) (record { sfits = small n k h l })
+pub difference_fits : (n k : ℕ) → n < 128 → k < 128 → SFits w8 (to_z w8 n -ℤ to_z w8 k)
+difference_fits n k h l = rw (to_z_pos w8 n h, to_z_pos w8 k l) (record { sfits = small n k h l })
 
-pub difference-is : (n k : ℕ) → n < 128 → k < 128 → to_z w8 (of_z w8 (to_z w8 n -ℤ to_z w8 k)) ≡ pos n -ℤ pos k
-difference-is n k h l = to_z-of_z w8 _ (difference-fits n k h l) ∙ rw (to_z_pos w8 n h, to_z_pos w8 k l)
+pub difference_is : (n k : ℕ) → n < 128 → k < 128 → to_z w8 (of_z w8 (to_z w8 n -ℤ to_z w8 k)) ≡ pos n -ℤ pos k
+difference_is n k h l = to_z-of_z w8 _ (difference_fits n k h l) ∙ rw (to_z_pos w8 n h, to_z_pos w8 k l)

@@ -18,32 +18,32 @@ bytes32 Q80 = 34
 bytes32 Iq4Nl = 18
 
 -- Q4_K: 144 bytes; Q5_K: 176 bytes; Q6_K: 210 bytes
-abbrev pub bytesK : FormatK → ℕ
-bytesK Q4K = 144
-bytesK Q5K = 176
-bytesK Q6K = 210
+abbrev pub bytes_k : FormatK → ℕ
+bytes_k Q4K = 144
+bytes_k Q5K = 176
+bytes_k Q6K = 210
 
 -- whether a K format has minimums
-abbrev pub hasMinimums : FormatK → Bool
-hasMinimums Q4K = true
-hasMinimums Q5K = true
-hasMinimums Q6K = false
+abbrev pub has_minimums : FormatK → Bool
+has_minimums Q4K = true
+has_minimums Q5K = true
+has_minimums Q6K = false
 
 -- how many places of a K format have one scale: the 32 of a sub-block, which has a minimum too, or the 16 of a run
-abbrev pub runLength : FormatK → ℕ
-runLength f = cond (hasMinimums f) 32 16
+abbrev pub run_length : FormatK → ℕ
+run_length f = cond (has_minimums f) 32 16
 
 -- how many bytes a block has
-abbrev pub blockBytes : Format → ℕ
-blockBytes (Of32 f) = bytes32 f
-blockBytes (OfK f) = bytesK f
+abbrev pub block_bytes : Format → ℕ
+block_bytes (Of32 f) = bytes32 f
+block_bytes (OfK f) = bytes_k f
 
 -- how many values a block has
-abbrev pub blockValues : Format → ℕ
-blockValues (Of32 f) = 32
-blockValues (OfK f) = 256
+abbrev pub block_values : Format → ℕ
+block_values (Of32 f) = 32
+block_values (OfK f) = 256
 
 -- the format that a layer's format byte names: 4 is Q4_K, 5 is Q5_K, 6 is Q6_K, and any other names none
-unfoldable pub formatNamed : ℕ → Named
-formatNamed byte =
+unfoldable pub format_named : ℕ → Named
+format_named byte =
     cond (eqb byte 4) (Known Q4K) (cond (eqb byte 5) (Known Q5K) (cond (eqb byte 6) (Known Q6K) Unknown))

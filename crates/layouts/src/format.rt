@@ -1,7 +1,7 @@
 // The formats, by the values that a block has. A format's name is written without its underscore, which has a meaning
 // of its own in a definition.
 ghost use Rattle.std.specs.Prelude.{◌≡◌};
-ghost use Rattle.layouts.specs.Formats.{bytes32, bytesK, blockBytes, blockValues, formatNamed};
+ghost use Rattle.layouts.specs.Formats.{bytes32, bytes_k, block_bytes, block_values, format_named};
 
 // The formats with 32 values to a block. Q4_0 is in two orders: with neighbours paired in a byte, and in GGML's.
 #[derive(Clone, Copy)]
@@ -40,7 +40,7 @@ fn bytes_32(format: Format32) -> usize
 }
 
 fn bytes_k(format: FormatK) -> usize
-    ensures { result ≡ bytesK format }
+    ensures { result ≡ bytes_k format }
 {
     match format {
         FormatK::Q4K => 144,
@@ -51,7 +51,7 @@ fn bytes_k(format: FormatK) -> usize
 
 // How many bytes a block has.
 pub fn block_bytes(format: Format) -> usize
-    ensures { result ≡ blockBytes format }
+    ensures { result ≡ block_bytes format }
 {
     match format {
         Format::Of32(f) => bytes_32(f),
@@ -61,7 +61,7 @@ pub fn block_bytes(format: Format) -> usize
 
 // How many values a block has.
 pub fn block_values(format: Format) -> usize
-    ensures { result ≡ blockValues format }
+    ensures { result ≡ block_values format }
 {
     match format {
         Format::Of32(_) => 32,
@@ -78,7 +78,7 @@ pub enum Named {
 
 // 4 is Q4_K, 5 is Q5_K, 6 is Q6_K, and any other byte names no format.
 pub fn format_named(byte: u8) -> Named
-    ensures { result ≡ formatNamed byte }
+    ensures { result ≡ format_named byte }
 {
     if byte == 4 {
         return Named::Known(FormatK::Q4K);

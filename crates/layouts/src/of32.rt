@@ -1,7 +1,7 @@
 // The whole numbers of the formats with 32 values to a block.
 ghost use Rattle.std.specs.Prelude.{◌≡◌, ◌+◌, ◌*◌, ◌%◌, ◌≤◌, ◌<◌, pos, ◌-ℤ◌, length};
 ghost use Rattle.memory.specs.Lists.{table};
-ghost use Rattle.layouts.specs.Of32.{valuesIq4Nl, quant32};
+ghost use Rattle.layouts.specs.Of32.{values_iq4_nl, quant32};
 
 use crate::format::Format32;
 
@@ -84,7 +84,7 @@ const VALUES_IQ4_NL: [i8; 16] = [
 
 // The table, which a loop takes once: where it is named inside one, the compiler writes it to the stack at every turn.
 pub fn values_iq4_nl() -> [i8; 16]
-    ensures { result ≡ valuesIq4Nl }
+    ensures { result ≡ values_iq4_nl }
 {
     VALUES_IQ4_NL
 }

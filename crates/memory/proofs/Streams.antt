@@ -11,7 +11,7 @@ use lib.Dec.{eqb}
 use lib.ListN.{length, get_or, set, length-set}
 use lib.Seq.{get_or-set_same, get_or-set_other, ext_get_or}
 use Rattle.memory.specs.Lists.{table}
-use Rattle.memory.proofs.Filled.{length-table, getD-table}
+use Rattle.memory.proofs.Filled.{length_table, get_or_table}
 
 same? : (a b : ℕ) → (a ≡ b) ⊎ (a ≡ b → ⊥)
 same? a b = go (eqb a b) refl
@@ -41,9 +41,9 @@ module _ {A : Type 0} where
   Right f [] = Unit
   Right f (p ∷ ps) = (p.what ≡ f p.place) × Right f ps
 
-  pub length-stored : (out : List A) (ps : List (Put A)) → length (stored out ps) ≡ length out
-  length-stored out [] = refl
-  length-stored out (p ∷ ps) = length-stored (set out p.place p.what) ps ∙ length-set out p.place p.what
+  pub length_stored : (out : List A) (ps : List (Put A)) → length (stored out ps) ≡ length out
+  length_stored out [] = refl
+  length_stored out (p ∷ ps) = length_stored (set out p.place p.what) ps ∙ length-set out p.place p.what
 
   module _ (f : ℕ → A) (z : A) where
     -- one store keeps a place that is right, and makes its own right
@@ -78,7 +78,7 @@ module _ {A : Type 0} where
       -- one more turn: it stores what is right, at every place that is its own
       pub done_more : (out : List A) (k : ℕ) (ps : List (Put A)) → Done out k → Right f ps → ((i : ℕ) → i < n → turn i ≡ k → Among i ps) → Done (stored out ps) (k + 1)
       done_more out k ps d r own = (
-        length-stored out ps ∙ d.0,
+        length_stored out ps ∙ d.0,
         λ i h l.
             let g : i < length out = omega (arith, d.0) in
             elim (same? (turn i) k) [
@@ -89,5 +89,5 @@ module _ {A : Type 0} where
 
       pub done_all : (out : List A) (k : ℕ) → Done out k → ((i : ℕ) → i < n → turn i < k) → out ≡ table f n
       done_all out k d all =
-          ext_get_or z out (table f n) (d.0 ∙ sym (length-table f n))
-          (λ i h. let l : i < n = omega (arith, d.0) in d.1 i l (all i l) ∙ sym (getD-table f n i z l))
+          ext_get_or z out (table f n) (d.0 ∙ sym (length_table f n))
+          (λ i h. let l : i < n = omega (arith, d.0) in d.1 i l (all i l) ∙ sym (get_or_table f n i z l))

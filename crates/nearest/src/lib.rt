@@ -3,8 +3,8 @@ ghost use Rattle.std.specs.Prelude.{◌≡◌, ◌≤◌, ◌<◌, ◌+ℤ◌, l
 ghost use Rattle.std.specs.Float.{nan, binary32};
 ghost use Rattle.std.specs.Float.Ieee.{mul};
 ghost use Rattle.memory.specs.Lists.{table};
-ghost use Rattle.nearest.specs.Nearest.{nearest, quantIq4Nl};
-ghost use Rattle.nearest.specs.Inner.{nextIsNearer};
+ghost use Rattle.nearest.specs.Nearest.{nearest, quant_iq4_nl};
+ghost use Rattle.nearest.specs.Inner.{next_is_nearer};
 
 use layouts::values_iq4_nl;
 
@@ -18,7 +18,7 @@ fn sum_of(a: i8, b: i8) -> i16
 // 1 where the next of two values is nearer to q: q lies above the middle of the two. In the middle they are as near, and
 // the lower is taken.
 fn next_is_nearer(q: i8, value: i8, next: i8) -> u8
-    ensures { (result ≡ nextIsNearer q value next) × (result ≤ 1) }
+    ensures { (result ≡ next_is_nearer q value next) × (result ≤ 1) }
 {
     if sum_of(value, next) < sum_of(q, q) {
         1
@@ -41,7 +41,7 @@ fn nearest_to(q: i8) -> u8
 
 // The IQ4_NL nibble of p, a reading times the inverse.
 fn round_iq4_nl(p: f32) -> u8
-    ensures { result ≡ quantIq4Nl p }
+    ensures { result ≡ quant_iq4_nl p }
 {
     nearest_to(readings::round_q8(p))
 }
@@ -50,7 +50,7 @@ fn round_iq4_nl(p: f32) -> u8
 // compiled into this loop, and is done in vectors.
 pub fn nibbles_iq4_nl(x: &[f32], inverse: f32) -> [u8; 32]
     requires { length x.now ≡ 32 }
-    ensures { result ≡ table (λ k. quantIq4Nl (mul binary32 (get_or x.now k nan) inverse)) 32 }
+    ensures { result ≡ table (λ k. quant_iq4_nl (mul binary32 (get_or x.now k nan) inverse)) 32 }
 {
     let mut n = [0u8; 32];
     for k in 0..32usize {

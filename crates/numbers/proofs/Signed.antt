@@ -11,11 +11,11 @@ pub read_is : (w : Width) (z : ℤ) → mag z < 2 ^ hbits w → to_z w (of_z w z
 read_is w z p = to_z-of_z w z (record { sfits = p })
 
 -- a signed byte as a store reads it
-abbrev pub byteRead : ℤ → ℤ
-byteRead z = to_z w8 (of_z w8 z)
+abbrev pub byte_read : ℤ → ℤ
+byte_read z = to_z w8 (of_z w8 z)
 
-pub byte-read : {z x y : ℤ} → mag z < 128 → z ≡ x → y ≡ x → byteRead z ≡ y
-byte-read h e f = read_is w8 _ h ∙ e ∙ sym f
+pub byte_read_lem : {z x y : ℤ} → mag z < 128 → z ≡ x → y ≡ x → byte_read z ≡ y
+byte_read_lem h e f = read_is w8 _ h ∙ e ∙ sym f
 
 -- a byte's signed number is what the machine reads from its bits
 pub signed_is : (b : ℕ) → to_z w8 b ≡ signed b
@@ -29,6 +29,6 @@ pub signed_high : (b : ℕ) → 128 ≤ b → signed b ≡ negsuc (255 - b)
 signed_high b h = rw (le-ltb b 128 h)
 
 -- m taken off -1
-pub below-zero : (m : ℕ) → negsuc 0 -ℤ pos m ≡ negsuc m
-below-zero zero = refl
-below-zero (suc m) = ap (λ (n : ℕ). negsuc (suc n)) (zero-add m)
+pub below_zero : (m : ℕ) → negsuc 0 -ℤ pos m ≡ negsuc m
+below_zero zero = refl
+below_zero (suc m) = ap (λ (n : ℕ). negsuc (suc n)) (zero-add m)

@@ -4,7 +4,7 @@ use Rattle.refusals.specs.Said.{Said, value, refused}
 use Rattle.memory.specs.Lists.{part}
 use Rattle.halves.specs.declared.how.How.{How}
 use Rattle.halves.specs.declared.how.How.TheVariants.{Exact, Cut, Flushed, SentToInfinity}
-use Rattle.quantizers.specs.Blocks.{scale_of, storedScale}
+use Rattle.quantizers.specs.Blocks.{scale_of, stored_scale}
 use Rattle.quantizers.specs.declared.target.Target.{Target}
 use Rattle.quantizers.specs.declared.lost.Lost.{Lost}
 use Rattle.quantizers.specs.declared.lost.Packing.{Packing}
@@ -22,19 +22,19 @@ counted l Flushed = lost (l.flushed + 1) l.infinite
 counted l SentToInfinity = lost l.flushed (l.infinite + 1)
 
 -- how the scale of a block of these 32 readings fares when it is stored
-unfoldable pub scaleFares : Target → List Float → How
-scaleFares t xs = (storedScale t (scale_of t xs)).how
+unfoldable pub scale_fares : Target → List Float → How
+scale_fares t xs = (stored_scale t (scale_of t xs)).how
 
 -- what the scales of the first n blocks of the readings lost
-unfoldable pub lostIn : Target → List Float → ℕ → Lost
-lostIn t xs zero = lost 0 0
-lostIn t xs (suc n) = counted (lostIn t xs n) (scaleFares t (part xs (n * 32) 32))
+unfoldable pub lost_in : Target → List Float → ℕ → Lost
+lost_in t xs zero = lost 0 0
+lost_in t xs (suc n) = counted (lost_in t xs n) (scale_fares t (part xs (n * 32) 32))
 
 -- what those of all of them lost
-abbrev pub lostBy : Target → List Float → Lost
-lostBy t xs = lostIn t xs (length xs / 32)
+abbrev pub lost_by : Target → List Float → Lost
+lost_by t xs = lost_in t xs (length xs / 32)
 
 -- what each answer of a quantizer says
-abbrev pub packingSays : Packing → Said Lost
-packingSays (packing.Packed l) = value l
-packingSays (packing.Refused why) = refused why
+abbrev pub packing_says : Packing → Said Lost
+packing_says (packing.Packed l) = value l
+packing_says (packing.Refused why) = refused why

@@ -2,12 +2,12 @@
 use Prim.{Unit}
 use Rattle.std.specs.Prelude.{ℕ, ◌*◌, ◌/◌, ◌%◌, not, List, ltb, eqb, length, Float}
 use Rattle.refusals.specs.Said.{Said, value, no, done}
-use Rattle.refusals.specs.Sizes.{mostFloats}
-use Rattle.refusals.specs.Refusals.{given, or_else, carriedOut}
+use Rattle.refusals.specs.Sizes.{most_floats}
+use Rattle.refusals.specs.Refusals.{given, or_else, carried_out}
 use Rattle.memory.specs.Lists.{filled, part}
 use Rattle.layouts.specs.Formats.{bytes32}
 use Rattle.quantizers.specs.Blocks.{format_of, byte_at}
-use Rattle.quantizers.specs.Lost.{lostBy}
+use Rattle.quantizers.specs.Lost.{lost_by}
 use Rattle.quantizers.specs.declared.target.Target.{Target}
 use Rattle.quantizers.specs.declared.target.Target.TheVariants.{Iq4Nl}
 use Rattle.quantizers.specs.declared.lost.Lost.{Lost}
@@ -18,25 +18,25 @@ unfoldable pub packed_at : Target → List Float → ℕ → ℕ
 packed_at t xs i = byte_at t (part xs (i / bytes32 (format_of t) * 32) 32) (i % bytes32 (format_of t))
 
 -- how many bytes n readings make
-abbrev pub bytesFor : Target → ℕ → ℕ
-bytesFor t n = n / 32 * bytes32 (format_of t)
+abbrev pub bytes_for : Target → ℕ → ℕ
+bytes_for t n = n / 32 * bytes32 (format_of t)
 
 -- 6 over the size, 2 for a float count that is not a multiple of 32, 5 for an output too short
-unfoldable pub quantizeRefusal : Target → ℕ → ℕ → Said (Unit {0})
-quantizeRefusal t n room =
-    given (no 6) (ltb mostFloats n)
+unfoldable pub quantize_refusal : Target → ℕ → ℕ → Said (Unit {0})
+quantize_refusal t n room =
+    given (no 6) (ltb most_floats n)
     (given (no 2) (not (eqb (n % 32) 0))
-    (given (no 5) (ltb room (bytesFor t n))
+    (given (no 5) (ltb room (bytes_for t n))
     done))
 
 -- every block's bytes at the front of the output, whose surplus places are kept, and what the blocks' scales lost
-unfoldable pub quantizeSays : Target → List Float → List ℕ → Said Lost × List ℕ
-quantizeSays t xs out =
-    carriedOut (or_else (quantizeRefusal t (length xs) (length out)) (value (lostBy t xs)))
-    (filled (packed_at t xs) out (bytesFor t (length xs))) out
+unfoldable pub quantize_says : Target → List Float → List ℕ → Said Lost × List ℕ
+quantize_says t xs out =
+    carried_out (or_else (quantize_refusal t (length xs) (length out)) (value (lost_by t xs)))
+    (filled (packed_at t xs) out (bytes_for t (length xs))) out
 
 -- the same by a scale that is given, a binary16: no scale is picked, and none is lost
-unfoldable pub quantizeGivenSays : (scale : ℕ) → List Float → List ℕ → Said (Unit {0}) × List ℕ
-quantizeGivenSays scale xs out =
-    carriedOut (quantizeRefusal (Iq4Nl scale) (length xs) (length out))
-    (filled (packed_at (Iq4Nl scale) xs) out (bytesFor (Iq4Nl scale) (length xs))) out
+unfoldable pub quantize_given_says : (scale : ℕ) → List Float → List ℕ → Said (Unit {0}) × List ℕ
+quantize_given_says scale xs out =
+    carried_out (quantize_refusal (Iq4Nl scale) (length xs) (length out))
+    (filled (packed_at (Iq4Nl scale) xs) out (bytes_for (Iq4Nl scale) (length xs))) out

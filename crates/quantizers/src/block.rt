@@ -5,10 +5,10 @@ ghost use Rattle.std.specs.Float.Ieee.{mul};
 ghost use Rattle.memory.specs.Lists.{table};
 ghost use Rattle.numbers.specs.Fields.{byte_of};
 ghost use Rattle.layouts.specs.Formats.{bytes32};
-ghost use Rattle.readings.specs.Readings.{quantQ8, quantQ40};
-ghost use Rattle.nearest.specs.Nearest.{quantIq4Nl};
-ghost use Rattle.quantizers.specs.Blocks.{format_of, scale_of, storedScale, nibbles, byte_at};
-ghost use Rattle.quantizers.specs.Lost.{scaleFares};
+ghost use Rattle.readings.specs.Readings.{quant_q8, quant_q40};
+ghost use Rattle.nearest.specs.Nearest.{quant_iq4_nl};
+ghost use Rattle.quantizers.specs.Blocks.{format_of, scale_of, stored_scale, nibbles, byte_at};
+ghost use Rattle.quantizers.specs.Lost.{scale_fares};
 
 use crate::target::Target;
 use halves::{How, Narrowed};
@@ -28,7 +28,7 @@ fn scale_of(target: Target, x: &[f32]) -> f32
 
 // The scale as it is stored, a binary16, and how it fares. One that is given stays as it is.
 fn stored_scale(target: Target, d: f32) -> Narrowed
-    ensures { result ≡ storedScale target d }
+    ensures { result ≡ stored_scale target d }
 {
     match target {
         Target::Q40 | Target::Q40Ggml | Target::Q80 => halves::f32_to_f16(halves::bits_of(d)),
@@ -41,7 +41,7 @@ fn stored_scale(target: Target, d: f32) -> Narrowed
 
 // The quants of two readings, scaled, in one byte of Q4_0.
 fn nibbles_of(first: f32, second: f32) -> u8
-    ensures { result ≡ nibbles (quantQ40 first) (quantQ40 second) }
+    ensures { result ≡ nibbles (quant_q40 first) (quant_q40 second) }
 {
     let low = readings::round_q4_0(first);
     let high = readings::round_q4_0(second);
@@ -52,8 +52,8 @@ fn nibbles_of(first: f32, second: f32) -> u8
 fn write_quants_q4_0(x: &[f32], inverse: f32, out: &mut [u8])
     requires { (length x.now ≡ 32) × (length out.old ≡ 16) }
     ensures { out.new
-        ≡ table (λ k. nibbles (quantQ40 (mul binary32 (get_or x.now (2 * k) nan) inverse))
-        (quantQ40 (mul binary32 (get_or x.now (2 * k + 1) nan) inverse))) 16 }
+        ≡ table (λ k. nibbles (quant_q40 (mul binary32 (get_or x.now (2 * k) nan) inverse))
+        (quant_q40 (mul binary32 (get_or x.now (2 * k + 1) nan) inverse))) 16 }
 {
     for k in 0..16usize {
         out[k] = nibbles_of(x[2 * k] * inverse, x[2 * k + 1] * inverse);
@@ -64,8 +64,8 @@ fn write_quants_q4_0(x: &[f32], inverse: f32, out: &mut [u8])
 fn write_quants_q4_0_ggml(x: &[f32], inverse: f32, out: &mut [u8])
     requires { (length x.now ≡ 32) × (length out.old ≡ 16) }
     ensures { out.new
-        ≡ table (λ k. nibbles (quantQ40 (mul binary32 (get_or x.now k nan) inverse))
-        (quantQ40 (mul binary32 (get_or x.now (k + 16) nan) inverse))) 16 }
+        ≡ table (λ k. nibbles (quant_q40 (mul binary32 (get_or x.now k nan) inverse))
+        (quant_q40 (mul binary32 (get_or x.now (k + 16) nan) inverse))) 16 }
 {
     for k in 0..16usize {
         out[k] = nibbles_of(x[k] * inverse, x[k + 16] * inverse);
@@ -76,8 +76,8 @@ fn write_quants_q4_0_ggml(x: &[f32], inverse: f32, out: &mut [u8])
 fn write_quants_iq4_nl(x: &[f32], inverse: f32, out: &mut [u8])
     requires { (length x.now ≡ 32) × (length out.old ≡ 16) }
     ensures { out.new
-        ≡ table (λ k. nibbles (pos (quantIq4Nl (mul binary32 (get_or x.now k nan) inverse)))
-        (pos (quantIq4Nl (mul binary32 (get_or x.now (k + 16) nan) inverse)))) 16 }
+        ≡ table (λ k. nibbles (pos (quant_iq4_nl (mul binary32 (get_or x.now k nan) inverse)))
+        (pos (quant_iq4_nl (mul binary32 (get_or x.now (k + 16) nan) inverse)))) 16 }
 {
     let n = nibbles_iq4_nl(x, inverse);
     for k in 0..16usize {
@@ -89,7 +89,7 @@ fn write_quants_iq4_nl(x: &[f32], inverse: f32, out: &mut [u8])
 fn write_quants_q8_0(x: &[f32], inverse: f32, out: &mut [u8])
     requires { (length x.now ≡ 32) × (length out.old ≡ 32) }
     ensures { out.new
-        ≡ table (λ k. byte_of (quantQ8 (mul binary32 (get_or x.now k nan) inverse))) 32 }
+        ≡ table (λ k. byte_of (quant_q8 (mul binary32 (get_or x.now k nan) inverse))) 32 }
 {
     for k in 0..32usize {
         out[k] = numbers::unsigned_byte(readings::round_q8(x[k] * inverse));
@@ -99,7 +99,7 @@ fn write_quants_q8_0(x: &[f32], inverse: f32, out: &mut [u8])
 // One block's bytes, and how its scale fares when it is stored.
 pub fn quantize_block(target: Target, x: &[f32], out: &mut [u8]) -> How
     requires { (length x.now ≡ 32) × (length out.old ≡ bytes32 (format_of target)) }
-    ensures { (result ≡ scaleFares target x.now)
+    ensures { (result ≡ scale_fares target x.now)
         × (out.new ≡ table (byte_at target x.now) (bytes32 (format_of target))) }
 {
     let d = scale_of(target, x);

@@ -1,9 +1,9 @@
 // The quantizers: every block's bytes, each block's in its own places in the middle of the output.
 ghost use Rattle.std.specs.Prelude.{◌≡◌, ◌≤◌, length};
-ghost use Rattle.refusals.specs.Said.{checkSays, outcomeSays};
+ghost use Rattle.refusals.specs.Said.{check_says, outcome_says};
 ghost use Rattle.memory.specs.Lists.{filled};
-ghost use Rattle.quantizers.specs.Lost.{lostBy, packingSays};
-ghost use Rattle.quantizers.specs.Says.{packed_at, bytesFor, quantizeRefusal, quantizeSays, quantizeGivenSays};
+ghost use Rattle.quantizers.specs.Lost.{lost_by, packing_says};
+ghost use Rattle.quantizers.specs.Says.{packed_at, bytes_for, quantize_refusal, quantize_says, quantize_given_says};
 
 use crate::block::quantize_block;
 use crate::lost::{Lost, Packing, count};
@@ -13,10 +13,10 @@ use refusals::{Check, Outcome};
 
 // The bytes of the whole blocks of 32 readings, at the front of the output, and what their scales lost.
 fn quantize_blocks(target: Target, x: &[f32], out: &mut [u8]) -> Lost
-    requires { bytesFor target (length x.now) ≤ length out.old }
-    ensures { (result ≡ lostBy target x.now)
+    requires { bytes_for target (length x.now) ≤ length out.old }
+    ensures { (result ≡ lost_by target x.now)
         × (out.new
-        ≡ filled (packed_at target x.now) out.old (bytesFor target (length x.now))) }
+        ≡ filled (packed_at target x.now) out.old (bytes_for target (length x.now))) }
 {
     let size = block_bytes(Format::Of32(format_of(target)));
     let blocks = x.len() / 32;
@@ -39,7 +39,7 @@ fn quantize_blocks(target: Target, x: &[f32], out: &mut [u8]) -> Lost
 
 // Why a quantizer of n readings into `room` places refuses.
 fn quantize_refusal(target: Target, n: usize, room: usize) -> Check
-    ensures { checkSays result ≡ quantizeRefusal target n room }
+    ensures { check_says result ≡ quantize_refusal target n room }
 {
     if n > refusals::MOST_FLOATS {
         return Check::Refused(refusals::TOO_LARGE);
@@ -55,7 +55,7 @@ fn quantize_refusal(target: Target, n: usize, room: usize) -> Check
 
 // The readings as blocks of a target, and what their scales lost, or why not.
 fn quantize(target: Target, x: &[f32], out: &mut [u8]) -> Packing
-    ensures { (packingSays result, out.new) ≡ quantizeSays target x.now out.old }
+    ensures { (packing_says result, out.new) ≡ quantize_says target x.now out.old }
 {
     let checked = quantize_refusal(target, x.len(), out.len());
     if let Check::Refused(refusal) = checked {
@@ -66,22 +66,22 @@ fn quantize(target: Target, x: &[f32], out: &mut [u8]) -> Packing
 
 // The readings as Q4_0 blocks, and what their scales lost. Refuses 6, 2 and 5, in this order.
 pub fn quantize_q4_0(x: &[f32], out: &mut [u8]) -> Packing
-    ensures { (packingSays result, out.new) ≡ quantizeSays Target.Q40 x.now out.old }
+    ensures { (packing_says result, out.new) ≡ quantize_says Target.Q40 x.now out.old }
 {
     quantize(Target::Q40, x, out)
 }
 
 // The readings as Q4_0 blocks in GGML's order, and what their scales lost. Refuses 6, 2 and 5, in this order.
 pub fn quantize_q4_0_ggml(x: &[f32], out: &mut [u8]) -> Packing
-    ensures { (packingSays result, out.new)
-        ≡ quantizeSays Target.Q40Ggml x.now out.old }
+    ensures { (packing_says result, out.new)
+        ≡ quantize_says Target.Q40Ggml x.now out.old }
 {
     quantize(Target::Q40Ggml, x, out)
 }
 
 // The readings as Q8_0 blocks, and what their scales lost. Refuses 6, 2 and 5, in this order.
 pub fn quantize_q8_0(x: &[f32], out: &mut [u8]) -> Packing
-    ensures { (packingSays result, out.new) ≡ quantizeSays Target.Q80 x.now out.old }
+    ensures { (packing_says result, out.new) ≡ quantize_says Target.Q80 x.now out.old }
 {
     quantize(Target::Q80, x, out)
 }
@@ -89,7 +89,7 @@ pub fn quantize_q8_0(x: &[f32], out: &mut [u8]) -> Packing
 // The readings as IQ4_NL blocks by one scale, a binary16, which every block stores as it is. Refuses 6, 2 and 5, in this
 // order.
 pub fn quantize_iq4_nl(x: &[f32], scale: u16, out: &mut [u8]) -> Outcome
-    ensures { (outcomeSays result, out.new) ≡ quantizeGivenSays scale x.now out.old }
+    ensures { (outcome_says result, out.new) ≡ quantize_given_says scale x.now out.old }
 {
     let packing = quantize(Target::Iq4Nl(scale), x, out);
     match packing {

@@ -12,18 +12,18 @@ plus nan = false
 plus (inf s) = not s
 plus (fin s m e) = not s
 
-plus-cond : (t : Bool) (x y : Float) → T (plus x) → T (plus y) → T (plus (cond t x y))
-plus-cond true x y h k = h
-plus-cond false x y h k = k
+plus_cond : (t : Bool) (x y : Float) → T (plus x) → T (plus y) → T (plus (cond t x y))
+plus_cond true x y h k = h
+plus_cond false x y h k = k
 
-plus-odd : (d q k l : ℕ) → T (plus (odd d false q k l))
+plus_odd : (d q k l : ℕ) → T (plus (odd d false q k l))
 unfolding odd
-plus-odd d zero k l = tt
-plus-odd d (suc q) k l = tt
+plus_odd d zero k l = tt
+plus_odd d (suc q) k l = tt
 
-plus-units : (f : Format) (q k : ℕ) → T (plus (units f false q k))
+plus_units : (f : Format) (q k : ℕ) → T (plus (units f false q k))
 unfolding units
-plus-units f q k = plus-cond (ltb (q * 2 ^ k) (overflow f)) (odd (suc (prec f)) false q k (low f)) (inf false) (plus-odd (suc (prec f)) q k (low f)) tt
+plus_units f q k = plus_cond (ltb (q * 2 ^ k) (overflow f)) (odd (suc (prec f)) false q k (low f)) (inf false) (plus_odd (suc (prec f)) q k (low f)) tt
 
-pub plus-round : (f : Format) (a c : ℕ) → T (plus (round f false a c))
-plus-round f a c = rw (round_is f false a c) (plus-units f _ _)
+pub plus_round : (f : Format) (a c : ℕ) → T (plus (round f false a c))
+plus_round f a c = rw (round_is f false a c) (plus_units f _ _)

@@ -17,14 +17,14 @@ use lib.Ieee.Fits.{nearest-le, sub-fits, round-fits}
 use lib.Ieee.Nearest.{closest, closest_same, nearest-ge}
 use lib.Ieee.Scale.{grid, round_val}
 use Rattle.numbers.specs.Steps.{nought, truncated}
-use Rattle.readings.proofs.Values.{Fraction, of-value, to-value, finite, power, lt-is, add_is, sub_is, cut-is}
+use Rattle.readings.proofs.Values.{Fraction, of_value, to_value, finite, power, lt_is, add_is, sub_is, cut_is}
 
 -- ---- from 2 ^ 23 to 2 ^ 24 the floats are the whole numbers
 
 -- q * l over l is the whole number q
 unscaled : (x : Float) (q l : ℕ) → 0 < l → HasValue x false (q * l) l → Fraction x q 1
 unscaled x q l L h =
-    let p = of-value x (q * l) l L h in
+    let p = of_value x (q * l) l L h in
     record {
       some = lit< tt;
       digits = p.digits;
@@ -47,8 +47,8 @@ module _ (a d : ℕ) (D : 0 < d) (from : 2 ^ 23 * d ≤ a) (under : a < 2 ^ 24 *
       le_antisymm (size-le n 173 high_end) (lt_of_not-le (λ (g : size n ≤ 172). not-le_of_lt (size-lt n) (le_trans (pow_mono g) low_end)))
 
   -- .. of which 24 are kept: what is left is a whole number, the closest
-  on-grid : grid binary32 a d ≡ closest a d * 2 ^ 149
-  on-grid =
+  on_grid : grid binary32 a d ≡ closest a d * 2 ^ 149
+  on_grid =
       ap (λ (k : ℕ). closest (a * 2 ^ 149) (d * 2 ^ (k - 24)) * 2 ^ (k - 24)) digits
       ∙ ap (λ (q : ℕ). q * 2 ^ 149) (closest_same (a * 2 ^ 149) (d * 2 ^ 149) a d (mul-pos D (pow_pos 149)) D (mul_right_comm a (2 ^ 149) d ∙ mul_assoc a d (2 ^ 149)))
 
@@ -57,9 +57,9 @@ module _ (a d : ℕ) (D : 0 < d) (from : 2 ^ 23 * d ≤ a) (under : a < 2 ^ 24 *
 
   pub rounds : Fraction (round binary32 false a d) (closest a d) 1
   rounds =
-      let small : grid binary32 a d < 2 ^ 277 = lt_of_le_of_lt (le_of_eq on-grid) (lt_of_lt_of_le (shl_lt 25 149 at_most) (lit≤ tt)) in
+      let small : grid binary32 a d < 2 ^ 277 = lt_of_le_of_lt (le_of_eq on_grid) (lt_of_lt_of_le (shl_lt 25 149 at_most) (lit≤ tt)) in
       unscaled (round binary32 false a d) (closest a d) (2 ^ 149) (pow_pos 149)
-      (subst (λ (q : ℕ). HasValue (round binary32 false a d) false q (2 ^ 149)) on-grid (round_val binary32 a d small))
+      (subst (λ (q : ℕ). HasValue (round binary32 false a d) false q (2 ^ 149)) on_grid (round_val binary32 a d small))
 
 -- ---- +0.0 or above, and below 256
 
@@ -105,32 +105,32 @@ module _ (c : Float) (n d : ℕ) (p : Fraction c n d) (b : n < 256 * d) where
       let h = nearest-le ((n + 8388608 * d) / d) (compare ((n + 8388608 * d) % d * 2) d) in
       (omega arith, omega arith)
 
-  whole-small : n / d < 256
-  whole-small = (div-lt_iff_lt-mul p.some).1 b
+  whole_small : n / d < 256
+  whole_small = (div-lt_iff_lt-mul p.some).1 b
 
   added : Fraction (add binary32 c big) sum 1
   added =
       let e : add binary32 c big ≡ round binary32 false (n + 8388608 * d) d = simp mul-one at (add_is p (power 23)) in
       rw e (rounds (n + 8388608 * d) d p.some (omega arith) (omega arith))
 
-  near-small : sum - 8388608 ≤ 256
-  near-small = omega (arith, next, whole-small)
+  near_small : sum - 8388608 ≤ 256
+  near_small = omega (arith, next, whole_small)
 
-  near-is : Fraction (near c) (sum - 8388608) 1
-  near-is =
+  near_is : Fraction (near c) (sum - 8388608) 1
+  near_is =
       let l : 8388608 ≤ sum = omega (arith, next) in
       let e : near c ≡ round binary32 false (sum - 8388608) 1 = simp mul-one at (sub_is added (power 23) (mul-le-mul_right 1 l)) in
-      rw e (of-value (round binary32 false (sum - 8388608) 1) (sum - 8388608) 1 (lit< tt) (round_whole binary32 false (sum - 8388608) (omega (arith, near-small))))
+      rw e (of_value (round binary32 false (sum - 8388608) 1) (sum - 8388608) 1 (lit< tt) (round_whole binary32 false (sum - 8388608) (omega (arith, near_small))))
 
-  near-float : near c ≡ of_int binary32 (pos (sum - 8388608))
+  near_float : near c ≡ of_int binary32 (pos (sum - 8388608))
   unfolding of_int
-  near-float =
-      whole_unique binary32 (near c) (round binary32 false (sum - 8388608) 1) false (sum - 8388608) (sub-fits binary32 (add binary32 c big) big) (round-fits binary32 false (sum - 8388608) 1) (to-value near-is)
-      (round_whole binary32 false (sum - 8388608) (omega (arith, near-small)))
+  near_float =
+      whole_unique binary32 (near c) (round binary32 false (sum - 8388608) 1) false (sum - 8388608) (sub-fits binary32 (add binary32 c big) big) (round-fits binary32 false (sum - 8388608) 1) (to_value near_is)
+      (round_whole binary32 false (sum - 8388608) (omega (arith, near_small)))
 
   -- it is the whole part, or one more where it is above c
   one_more : sum - 8388608 ≡ n / d + cond (lt c (near c)) 1 0
-  one_more = rw (lt-is p near-is) (by (ltb (n * 1) ((sum - 8388608) * d)) refl)
+  one_more = rw (lt_is p near_is) (by (ltb (n * 1) ((sum - 8388608) * d)) refl)
     where
       by : (t : Bool) → ltb (n * 1) ((sum - 8388608) * d) ≡ t → sum - 8388608 ≡ n / d + cond t 1 0
       by true e =
@@ -145,16 +145,16 @@ pub record Whole (c : Float) : Type 0 where
   pub w : ℕ
   pub under : w < 256
   pub is : truncated c ≡ pos w
-  pub next-to : near c ≡ of_int binary32 (pos (w + cond (lt c (near c)) 1 0))
+  pub next_to : near c ≡ of_int binary32 (pos (w + cond (lt c (near c)) 1 0))
 
 pub whole_of : {c : Float} → Small c → Whole c
 whole_of {c} s =
-    let under = whole-small c s.num s.den s.fraction s.below in
+    let under = whole_small c s.num s.den s.fraction s.below in
     record {
       w = s.num / s.den;
       under = under;
-      is = cut-is 31 s.fraction ∙ ap pos (min-eq_left (held under));
-      next-to = near-float c s.num s.den s.fraction s.below ∙ ap (λ (k : ℕ). of_int binary32 (pos k)) (one_more c s.num s.den s.fraction s.below);
+      is = cut_is 31 s.fraction ∙ ap pos (min-eq_left (held under));
+      next_to = near_float c s.num s.den s.fraction s.below ∙ ap (λ (k : ℕ). of_int binary32 (pos k)) (one_more c s.num s.den s.fraction s.below);
     }
   where
     held : {k : ℕ} → k < 256 → k ≤ 2 ^ 31 - 1

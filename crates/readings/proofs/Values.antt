@@ -30,8 +30,8 @@ over n p a c k d h = simp (mul_assoc, mul_comm, mul_left_comm) (simp (mul_assoc,
 other : (n p a c k d : ℕ) → n * c ≡ a * p → n * k * (d * c) ≡ a * d * (k * p)
 other n p a c k d h = rw (mul_comm d c, mul_comm k p) (over n p a c k d h)
 
-sub-mul : (m n k : ℕ) → (m - n) * k ≡ m * k - n * k
-sub-mul m n k = mul_comm (m - n) k ∙ mul-sub k m n ∙ simp mul_comm
+sub_mul : (m n k : ℕ) → (m - n) * k ≡ m * k - n * k
+sub_mul m n k = mul_comm (m - n) k ∙ mul-sub k m n ∙ simp mul_comm
 
 -- ---- floats
 
@@ -43,11 +43,11 @@ pub record Fraction (x : Float) (a c : ℕ) : Type 0 where
   pub shape : x ≡ fin false digits place
   pub same : digits * up place * c ≡ a * down place
 
-pub of-value : (x : Float) (a c : ℕ) → 0 < c → HasValue x false a c → Fraction x a c
-of-value nan a c C h = absurd h
-of-value (inf s) a c C h = absurd h
-of-value (fin true m e) a c C h = absurd (true≢false h.0)
-of-value (fin false m e) a c C h = record { some = C; digits = m; place = e; shape = refl; same = h.1 }
+pub of_value : (x : Float) (a c : ℕ) → 0 < c → HasValue x false a c → Fraction x a c
+of_value nan a c C h = absurd h
+of_value (inf s) a c C h = absurd h
+of_value (fin true m e) a c C h = absurd (true≢false h.0)
+of_value (fin false m e) a c C h = record { some = C; digits = m; place = e; shape = refl; same = h.1 }
 
 -- a finite float with the sign plus, ..
 pub finite : (m : ℕ) (e : ℤ) → Fraction (fin false m e) (m * up e) (down e)
@@ -57,12 +57,12 @@ finite m e = record { some = down_pos e; digits = m; place = e; shape = refl; sa
 pub power : (j : ℕ) → Fraction (fin false 1 (pos j)) (2 ^ j) 1
 power j = record { some = lit< tt; digits = 1; place = pos j; shape = refl; same = ap (λ (n : ℕ). n * 1) (one-mul (2 ^ j)) }
 
-pub to-value : {x : Float} {a c : ℕ} → Fraction x a c → HasValue x false a c
-to-value p = rw p.shape (refl, p.same)
+pub to_value : {x : Float} {a c : ℕ} → Fraction x a c → HasValue x false a c
+to_value p = rw p.shape (refl, p.same)
 
-pub lt-is : {x y : Float} {a c b d : ℕ} → Fraction x a c → Fraction y b d → lt x y ≡ ltb (a * d) (b * c)
+pub lt_is : {x y : Float} {a c b d : ℕ} → Fraction x a c → Fraction y b d → lt x y ≡ ltb (a * d) (b * c)
 unfolding lt
-lt-is {x} {y} {a} {c} {b} {d} p q =
+lt_is {x} {y} {a} {c} {b} {d} p q =
     let m = p.digits * up p.place in
     let n = q.digits * up q.place in
     let e = down p.place in
@@ -94,10 +94,10 @@ sub_is {x} {y} {a} {c} {b} {d} p q l =
     let v = other n k b d e c q.same in
     rw (p.shape, q.shape, le-ltb (m * k) (n * e) (transfer n m k e b a d c q.some p.some q.same p.same l))
     (round_same binary32 false (m * k - n * e) (e * k) (a * d - b * c) (c * d) (mul-pos (down_pos p.place) (down_pos q.place)) (mul-pos p.some q.some)
-    (sub-mul (m * k) (n * e) (c * d) ∙ (rw (u, v)) ∙ sym (sub-mul (a * d) (b * c) (e * k))))
+    (sub_mul (m * k) (n * e) (c * d) ∙ (rw (u, v)) ∙ sym (sub_mul (a * d) (b * c) (e * k))))
 
 -- the whole part
-pub cut-is : (h : ℕ) {x : Float} {a c : ℕ} → Fraction x a c → to_signed h x ≡ pos (min (a / c) (2 ^ h - 1))
+pub cut_is : (h : ℕ) {x : Float} {a c : ℕ} → Fraction x a c → to_signed h x ≡ pos (min (a / c) (2 ^ h - 1))
 unfolding to_signed
-cut-is h {x} {a} {c} p =
+cut_is h {x} {a} {c} p =
     rw p.shape (ap (λ (n : ℕ). pos (min n (2 ^ h - 1))) (div_same (p.digits * up p.place) (down p.place) a c (down_pos p.place) p.some p.same))

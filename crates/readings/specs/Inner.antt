@@ -20,7 +20,7 @@ abbrev pub end_of : Bool → List Float → Float
 end_of s xs = furthest s nought xs (length xs)
 
 -- the furthest of eight numbers, met in a tree
-unfoldable pub furthestOf8 : Bool → List Float → Float
-furthestOf8 s h = further s
+unfoldable pub furthest_of_8 : Bool → List Float → Float
+furthest_of_8 s h = further s
     (further s (further s (get_or h 0 nan) (get_or h 4 nan)) (further s (get_or h 2 nan) (get_or h 6 nan)))
     (further s (further s (get_or h 1 nan) (get_or h 5 nan)) (further s (get_or h 3 nan) (get_or h 7 nan)))

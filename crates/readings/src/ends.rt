@@ -1,7 +1,7 @@
 // The two ends of readings: the largest above 0 and the least below it. They are the same in any order of the readings.
 ghost use Rattle.std.specs.Prelude.{◌≡◌, true, false, cond, length};
 ghost use Rattle.std.specs.Float.Ieee.{lt};
-ghost use Rattle.readings.specs.Inner.{furthest, end_of, furthestOf8};
+ghost use Rattle.readings.specs.Inner.{furthest, end_of, furthest_of_8};
 
 // The larger of the two; a where b is a NaN.
 pub(crate) fn larger_of(a: f32, b: f32) -> f32
@@ -26,7 +26,7 @@ pub(crate) struct Ends {
 
 // The largest of eight lanes. They meet in a tree, where few comparisons wait for another.
 fn high_of_8(h: &[f32; 8]) -> f32
-    ensures { result ≡ furthestOf8 false h.now }
+    ensures { result ≡ furthest_of_8 false h.now }
 {
     larger_of(
         larger_of(larger_of(h[0], h[4]), larger_of(h[2], h[6])),
@@ -36,7 +36,7 @@ fn high_of_8(h: &[f32; 8]) -> f32
 
 // The least of eight lanes.
 fn low_of_8(h: &[f32; 8]) -> f32
-    ensures { result ≡ furthestOf8 true h.now }
+    ensures { result ≡ furthest_of_8 true h.now }
 {
     smaller_of(
         smaller_of(smaller_of(h[0], h[4]), smaller_of(h[2], h[6])),

@@ -2,7 +2,7 @@
 ghost use Rattle.std.specs.Prelude.{◌≡◌, not, ◌&&◌, length};
 ghost use Rattle.std.specs.Float.Ieee.{lt};
 ghost use Rattle.numbers.specs.Steps.{nought, magnitude};
-ghost use Rattle.readings.specs.Readings.{largest, largestValue, scaleQ8};
+ghost use Rattle.readings.specs.Readings.{largest, largest_value, scale_q8};
 
 use crate::ends::{ends_of, larger_of};
 use numbers::magnitude_of;
@@ -18,7 +18,7 @@ pub fn largest_magnitude(x: &[f32]) -> f32
 
 // The scale of readings that become Q8 quants: d.
 pub fn scale_q8(x: &[f32]) -> f32
-    ensures { result ≡ scaleQ8 x.now }
+    ensures { result ≡ scale_q8 x.now }
 {
     largest_magnitude(x) / 127.0
 }
@@ -34,7 +34,7 @@ fn reaches(v: f32, most: f32) -> bool
 // The first reading whose magnitude is `most`, the largest; +0.0 where that is 0.
 fn first_of(x: &[f32], most: f32) -> f32
     requires { most ≡ largest x.now (length x.now) }
-    ensures { result ≡ largestValue x.now (length x.now) }
+    ensures { result ≡ largest_value x.now (length x.now) }
 {
     for i in 0..x.len() {
         let v = x[i];
@@ -48,7 +48,7 @@ fn first_of(x: &[f32], most: f32) -> f32
 // The first value of largest magnitude: +0.0 where every reading is a zero or a NaN. It is the end that is further from
 // 0. Where both are as far, the readings tell which comes first.
 pub fn largest_value(x: &[f32]) -> f32
-    ensures { result ≡ largestValue x.now (length x.now) }
+    ensures { result ≡ largest_value x.now (length x.now) }
 {
     let e = ends_of(x);
     let high = e.high;

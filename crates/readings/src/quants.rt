@@ -3,7 +3,7 @@ ghost use Rattle.std.specs.Prelude.{◌≡◌, ◌<◌, true, ◌⊎◌, pos};
 ghost use Rattle.std.specs.Float.{binary32};
 ghost use Rattle.std.specs.Float.Ieee.{of_bits, lt};
 ghost use Rattle.numbers.specs.Steps.{nought, truncated};
-ghost use Rattle.readings.specs.Readings.{inverse, held, quantQ8, quantQ40};
+ghost use Rattle.readings.specs.Readings.{inverse, held, quant_q8, quant_q40};
 
 use crate::ends::{larger_of, smaller_of};
 use numbers::magnitude_of;
@@ -29,7 +29,7 @@ fn held_whole(t: f32, most: u8) -> i32
 // The Q8 quant of p, a reading times the inverse. The rule is the same on both sides of 0, so it is the magnitude that
 // is rounded.
 pub fn round_q8(p: f32) -> i8
-    ensures { result ≡ quantQ8 p }
+    ensures { result ≡ quant_q8 p }
 {
     let q = held_whole(magnitude_of(p) + 0.5, 127);
     let signed = if p < 0.0 { 0 - q } else { q };
@@ -38,7 +38,7 @@ pub fn round_q8(p: f32) -> i8
 
 // The Q4_0 quant of p, a reading times the inverse.
 pub fn round_q4_0(p: f32) -> u8
-    ensures { pos result ≡ quantQ40 p }
+    ensures { pos result ≡ quant_q40 p }
 {
     held_whole(p + 8.5, 15) as u8
 }

@@ -6,9 +6,9 @@ use borrow.Author.Tests.{leb-true, le-leb, lt-leb}
 use Rattle.records.specs.Kinds.{up_to}
 use Rattle.frames.proofs.Whole.{both}
 
-pub up-to : (most n : ℕ) → up_to most n ≡ true → (1 ≤ n) × (n ≤ most)
+pub up_to_lem : (most n : ℕ) → up_to most n ≡ true → (1 ≤ n) × (n ≤ most)
 unfolding up_to
-up-to most n e = let h = both _ _ e in (leb-true _ _ h.0, leb-true _ _ h.1)
+up_to_lem most n e = let h = both _ _ e in (leb-true _ _ h.0, leb-true _ _ h.1)
 
 module _ (most n : ℕ) where
   pub below : n < 1 → not (up_to most n) ≡ true

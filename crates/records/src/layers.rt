@@ -1,8 +1,8 @@
 // Kind 1, a layer: format byte, u32 in_feat, u32 out_feat, then exactly the weights.
 ghost use Rattle.std.specs.Prelude.{◌≡◌};
-ghost use Rattle.refusals.specs.Said.{checkSays};
-ghost use Rattle.records.specs.Found.{itemSays};
-ghost use Rattle.records.specs.Kinds.{weightsIn, sizesRefusal, layerFound};
+ghost use Rattle.refusals.specs.Said.{check_says};
+ghost use Rattle.records.specs.Found.{item_says};
+ghost use Rattle.records.specs.Kinds.{weights_in, sizes_refusal, layer_found};
 
 use crate::reader::Item;
 use layouts::Named;
@@ -21,14 +21,14 @@ pub const MOST_WEIGHTS: usize = 26_880;
 
 // The weights of a layer's payload, as a part of it.
 pub fn weights(p: &[u8]) -> &[u8]
-    ensures { result.now ≡ weightsIn p.now }
+    ensures { result.now ≡ weights_in p.now }
 {
     if p.len() < HEAD { &p[..0] } else { &p[HEAD..] }
 }
 
 // Why a layer's sizes are refused.
 fn sizes_refusal(in_feat: usize, out_feat: usize) -> Check
-    ensures { checkSays result ≡ sizesRefusal in_feat out_feat }
+    ensures { check_says result ≡ sizes_refusal in_feat out_feat }
 {
     if in_feat < 1 {
         return Check::Refused(refusals::TOO_LARGE);
@@ -50,7 +50,7 @@ fn sizes_refusal(in_feat: usize, out_feat: usize) -> Check
 
 // The layer record whose payload is p.
 pub(crate) fn layer_item(p: &[u8]) -> Item
-    ensures { itemSays result ≡ layerFound p.now }
+    ensures { item_says result ≡ layer_found p.now }
 {
     if p.len() < HEAD {
         return Item::Refused(refusals::MALFORMED);

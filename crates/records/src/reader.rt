@@ -1,8 +1,8 @@
 // What stands at the front of a record file.
 ghost use Rattle.std.specs.Prelude.{◌≡◌};
 ghost use Rattle.frames.specs.Frame.{frame_of};
-ghost use Rattle.records.specs.Found.{itemSays};
-ghost use Rattle.records.specs.Kinds.{kindFound, found};
+ghost use Rattle.records.specs.Found.{item_says};
+ghost use Rattle.records.specs.Kinds.{kind_found, found};
 
 use crate::layers::layer_item;
 use crate::windows::window_item;
@@ -31,7 +31,7 @@ pub enum Item {
 // The record of this kind with payload p, where the latest layer takes `latest` readings, or 0 where there is none
 // yet.
 fn kind_item(kind: usize, p: &[u8], latest: usize) -> Item
-    ensures { itemSays result ≡ kindFound kind p.now latest }
+    ensures { item_says result ≡ kind_found kind p.now latest }
 {
     match kind {
         1 => layer_item(p),
@@ -43,7 +43,7 @@ fn kind_item(kind: usize, p: &[u8], latest: usize) -> Item
 // What stands at the front of these bytes, where the latest layer takes `latest` readings, or 0 where there is none
 // yet. Refuses 11, 12, 11, 12, 6, 2, 11 and 13, in document 01's order.
 pub fn read(s: &[u8], latest: usize) -> Item
-    ensures { itemSays result ≡ found (frame_of s.now) latest }
+    ensures { item_says result ≡ found (frame_of s.now) latest }
 {
     match frames::frame_of(s) {
         Front::Ended => Item::End,

@@ -16,6 +16,6 @@ or_else (refused why) later = refused why
 
 -- A refusal returns its number and leaves all lent memory as it found it: what the call says, and what its memory holds
 -- then, `new` where it did its work and `old` where it refused.
-unfoldable pub carriedOut : {A M : Type 0} → Said A → M → M → Said A × M
-carriedOut (value a) new old = (value a, new)
-carriedOut (refused why) new old = (refused why, old)
+unfoldable pub carried_out : {A M : Type 0} → Said A → M → M → Said A × M
+carried_out (value a) new old = (value a, new)
+carried_out (refused why) new old = (refused why, old)

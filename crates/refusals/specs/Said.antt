@@ -19,29 +19,29 @@ abbrev pub no : ℕ → Refusal
 no num = record { number = num; found = 0; needed = 0 }
 
 -- fewer packed weights than needed (3): so many whole blocks were found, and so many are needed
-abbrev pub blocksShort : (found needed : ℕ) → Refusal
-blocksShort found needed = record { number = 3; found = found; needed = needed }
+abbrev pub blocks_short : (found needed : ℕ) → Refusal
+blocks_short found needed = record { number = 3; found = found; needed = needed }
 
 -- the work is done; and of a check, nothing is refused
 abbrev pub done : Said (Unit {0})
 done = value tt
 
 -- what each answer of a check says
-abbrev pub checkSays : Check → Said (Unit {0})
-checkSays check.Passed = done
-checkSays (check.Refused why) = refused why
+abbrev pub check_says : Check → Said (Unit {0})
+check_says check.Passed = done
+check_says (check.Refused why) = refused why
 
 -- what each answer of a dot or a sum says
-abbrev pub saidBy : Answer → Said Float
-saidBy (answer.Value v) = value v
-saidBy (answer.Refused why) = refused why
+abbrev pub said_by : Answer → Said Float
+said_by (answer.Value v) = value v
+said_by (answer.Refused why) = refused why
 
 -- what each answer of a call that fills lent memory says
-abbrev pub outcomeSays : Outcome → Said (Unit {0})
-outcomeSays outcome.Done = done
-outcomeSays (outcome.Refused why) = refused why
+abbrev pub outcome_says : Outcome → Said (Unit {0})
+outcome_says outcome.Done = done
+outcome_says (outcome.Refused why) = refused why
 
 -- what a layer says of what a row dot says: a refusal is passed on
-abbrev pub passedOn : Said Float → Said (Unit {0})
-passedOn (value v) = done
-passedOn (refused why) = refused why
+abbrev pub passed_on : Said Float → Said (Unit {0})
+passed_on (value v) = done
+passed_on (refused why) = refused why

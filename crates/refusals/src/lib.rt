@@ -1,6 +1,6 @@
 // The refusals, the sizes a call takes, and the answers that carry a value or a refusal.
 ghost use Rattle.std.specs.Prelude.{◌≡◌};
-ghost use Rattle.refusals.specs.Said.{blocksShort, saidBy, outcomeSays, passedOn};
+ghost use Rattle.refusals.specs.Said.{blocks_short, said_by, outcome_says, passed_on};
 
 // Why a call says no: document 01's number, and where packed weights are too few (3) the whole blocks that were found
 // and that are needed. A refusal that counts no blocks has 0 for both.
@@ -105,7 +105,7 @@ pub const WRONG_COUNT: Refusal = Refusal {
 
 // Fewer packed weights than needed, by whole blocks.
 pub fn blocks_short(found: usize, needed: usize) -> Refusal
-    ensures { result ≡ blocksShort found needed }
+    ensures { result ≡ blocks_short found needed }
 {
     Refusal {
         number: 3,
@@ -148,7 +148,7 @@ pub enum Outcome {
 
 // What a layer says of a row dot's answer: its refusal is passed on.
 pub fn passed_on(answer: Answer) -> Outcome
-    ensures { outcomeSays result ≡ passedOn (saidBy answer) }
+    ensures { outcome_says result ≡ passed_on (said_by answer) }
 {
     match answer {
         Answer::Value(_) => Outcome::Done,

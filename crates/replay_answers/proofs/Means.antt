@@ -11,16 +11,16 @@ use lib.Seq.{ext_get_or, get_or-take, length-take-le}
 use lib.Ieee.{Float, binary32, of_bits, to_bits, fits}
 use lib.Ieee.Bits.{of_bits-to_bits}
 use Rattle.memory.specs.Lists.{every}
-use Rattle.memory.proofs.Every.{every-all, every-not}
-use Rattle.replay_answers.specs.Same.{sameBits, sameByteAt, sameBytes}
+use Rattle.memory.proofs.Every.{every_all, every_not}
+use Rattle.replay_answers.specs.Same.{same_bits, same_byte_at, same_bytes}
 
 -- ---- floats
 
-pub one_float : (a b : Float) → T (fits binary32 a) → T (fits binary32 b) → sameBits a b ≡ true → a ≡ b
+pub one_float : (a b : Float) → T (fits binary32 a) → T (fits binary32 b) → same_bits a b ≡ true → a ≡ b
 one_float a b fa fb h = sym (of_bits-to_bits binary32 a fa) ∙ ap (of_bits binary32) (eqb-true _ _ h) ∙ of_bits-to_bits binary32 b fb
 
-pub float-itself : (a : Float) → sameBits a a ≡ true
-float-itself a = eq-eqb (to_bits binary32 a) (to_bits binary32 a) refl
+pub float_itself : (a : Float) → same_bits a a ≡ true
+float_itself a = eq-eqb (to_bits binary32 a) (to_bits binary32 a) refl
 
 -- ---- bytes
 
@@ -29,21 +29,21 @@ holds_at p k i h q = by (p i) refl
   where
     by : (t : Bool) → p i ≡ t → t ≡ true
     by true e = refl
-    by false e = absurd (false≢true (sym (every-not p k i q e) ∙ h))
+    by false e = absurd (false≢true (sym (every_not p k i q e) ∙ h))
 
-pub first-bytes : (p bs : List ℕ) → sameBytes p bs ≡ true → take (length bs) p ≡ bs
-unfolding sameBytes
-first-bytes p bs h = by (ltb (length p) (length bs)) refl h
+pub first_bytes : (p bs : List ℕ) → same_bytes p bs ≡ true → take (length bs) p ≡ bs
+unfolding same_bytes
+first_bytes p bs h = by (ltb (length p) (length bs)) refl h
   where
-    by : (t : Bool) → ltb (length p) (length bs) ≡ t → cond t false (every (sameByteAt p bs) (length bs)) ≡ true → take (length bs) p ≡ bs
+    by : (t : Bool) → ltb (length p) (length bs) ≡ t → cond t false (every (same_byte_at p bs) (length bs)) ≡ true → take (length bs) p ≡ bs
     by true e g = absurd (false≢true g)
     by false e g =
         let n : length bs ≤ length p = ltb-false _ _ e in
         let l : length (take (length bs) p) ≡ length bs = length-take-le (length bs) p n in
         ext_get_or 0 _ _ l (λ i q. get_or-take (length bs) p i 0 (omega arith) ∙ eqb-true _ _ (holds_at _ _ i g (omega arith)))
 
-pub bytes-themselves : (bs rest : List ℕ) → sameBytes (bs ++ rest) bs ≡ true
-unfolding sameBytes
-bytes-themselves bs rest =
+pub bytes_themselves : (bs rest : List ℕ) → same_bytes (bs ++ rest) bs ≡ true
+unfolding same_bytes
+bytes_themselves bs rest =
     let n : length bs ≤ length (bs ++ rest) = simp length-append (omega arith) in
-    rw (le-ltb _ _ n) (every-all _ _ (λ i q. eq-eqb _ _ (get_or-append bs rest 0 i q)))
+    rw (le-ltb _ _ n) (every_all _ _ (λ i q. eq-eqb _ _ (get_or-append bs rest 0 i q)))

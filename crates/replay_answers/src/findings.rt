@@ -1,7 +1,7 @@
 // What comes of a record of the sample.
 ghost use Rattle.std.specs.Prelude.{◌≡◌};
-ghost use Rattle.refusals.specs.Said.{saidBy, outcomeSays, checkSays};
-ghost use Rattle.replay_answers.specs.Same.{sameBits, saysNumber, sameAnswer, findingOf};
+ghost use Rattle.refusals.specs.Said.{said_by, outcome_says, check_says};
+ghost use Rattle.replay_answers.specs.Same.{same_bits, says_number, same_answer, finding_of};
 
 use refusals::{Answer, Check, Outcome};
 
@@ -26,7 +26,7 @@ pub enum Finding {
 impl Finding {
     // Whether ours is theirs, as a finding.
     pub fn of_same(same: bool) -> Self
-        ensures { result ≡ findingOf same }
+        ensures { result ≡ finding_of same }
     {
         if same {
             Finding::Same
@@ -37,14 +37,14 @@ impl Finding {
 
     // Of two floats: the same bits, or both NaN.
     pub fn of_floats(ours: f32, theirs: f32) -> Self
-        ensures { result ≡ findingOf (sameBits ours theirs) }
+        ensures { result ≡ finding_of (same_bits ours theirs) }
     {
         Finding::of_same(same_bits(ours, theirs))
     }
 
     // Of a dot or a sum.
     pub fn of_answer(ours: Answer, number: u32, value: f32) -> Self
-        ensures { result ≡ findingOf (sameAnswer (saidBy ours) number value) }
+        ensures { result ≡ finding_of (same_answer (said_by ours) number value) }
     {
         Finding::of_same(same_answer(ours, number, value))
     }
@@ -52,14 +52,14 @@ impl Finding {
 
 // Whether two floats are the same bits, or both NaN.
 pub fn same_bits(a: f32, b: f32) -> bool
-    ensures { result ≡ sameBits a b }
+    ensures { result ≡ same_bits a b }
 {
     halves::bits_of(a) == halves::bits_of(b)
 }
 
 // Whether a call that fills lent memory says this number: that it is done is 0.
 pub fn says(ours: Outcome, number: u32) -> bool
-    ensures { result ≡ saysNumber (outcomeSays ours) number }
+    ensures { result ≡ says_number (outcome_says ours) number }
 {
     match ours {
         Outcome::Done => number == 0,
@@ -69,7 +69,7 @@ pub fn says(ours: Outcome, number: u32) -> bool
 
 // Whether a check says this number: that nothing is refused is 0.
 pub fn check_says(ours: Check, number: u32) -> bool
-    ensures { result ≡ saysNumber (checkSays ours) number }
+    ensures { result ≡ says_number (check_says ours) number }
 {
     match ours {
         Check::Passed => number == 0,
@@ -79,7 +79,7 @@ pub fn check_says(ours: Check, number: u32) -> bool
 
 // Whether a dot or a sum says this number, or, where the number is 0, this value.
 pub fn same_answer(ours: Answer, number: u32, value: f32) -> bool
-    ensures { result ≡ sameAnswer (saidBy ours) number value }
+    ensures { result ≡ same_answer (said_by ours) number value }
 {
     match ours {
         Answer::Value(v) => number == 0 && same_bits(v, value),

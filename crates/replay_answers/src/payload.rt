@@ -2,7 +2,7 @@
 ghost use Rattle.std.specs.Prelude.{◌≡◌, length, get_or};
 ghost use Rattle.memory.specs.Lists.{table};
 ghost use Rattle.replay_answers.specs.Payload.{u32_at, float_at};
-ghost use Rattle.replay_answers.specs.Same.{sameFloats, sameBytes};
+ghost use Rattle.replay_answers.specs.Same.{same_floats, same_bytes};
 
 use crate::findings::same_bits;
 
@@ -48,7 +48,7 @@ pub fn read_floats(payload: &[u8], out: &mut [f32])
 
 // Whether the payload's first floats are these.
 pub fn same_floats(payload: &[u8], floats: &[f32]) -> bool
-    ensures { result ≡ sameFloats payload.now floats.now }
+    ensures { result ≡ same_floats payload.now floats.now }
 {
     let mut i: usize = 0;
     while i < floats.len() {
@@ -62,7 +62,7 @@ pub fn same_floats(payload: &[u8], floats: &[f32]) -> bool
 
 // Whether the payload's first bytes are these.
 pub fn same_bytes(payload: &[u8], bytes: &[u8]) -> bool
-    ensures { result ≡ sameBytes payload.now bytes.now }
+    ensures { result ≡ same_bytes payload.now bytes.now }
 {
     if payload.len() < bytes.len() {
         return false;

@@ -2,7 +2,7 @@
 // i32, and its count.
 ghost use Rattle.std.specs.Prelude.{◌≡◌};
 ghost use Rattle.memory.specs.Lists.{every};
-ghost use Rattle.dots_activation.specs.Whole.{elem, eqZ};
+ghost use Rattle.dots_activation.specs.Whole.{elem, eq_z};
 
 use dots_activation::Q8Block;
 use replay_answers::{byte_at, same_bits, u32_at};
@@ -56,7 +56,7 @@ pub fn read_block(payload: &[u8]) -> Q8Block {
 }
 
 fn same_quants(a: &[i8; 256], b: &[i8; 256]) -> bool
-    ensures { result ≡ every (λ i. eqZ (elem a.now i) (elem b.now i)) 256 }
+    ensures { result ≡ every (λ i. eq_z (elem a.now i) (elem b.now i)) 256 }
 {
     for i in 0..256usize {
         if a[i] != b[i] {
@@ -67,7 +67,7 @@ fn same_quants(a: &[i8; 256], b: &[i8; 256]) -> bool
 }
 
 fn same_sums(a: &[i32; 8], b: &[i32; 8]) -> bool
-    ensures { result ≡ every (λ j. eqZ (elem a.now j) (elem b.now j)) 8 }
+    ensures { result ≡ every (λ j. eq_z (elem a.now j) (elem b.now j)) 8 }
 {
     for j in 0..8usize {
         if a[j] != b[j] {

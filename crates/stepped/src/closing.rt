@@ -1,8 +1,8 @@
 // Close: a row's slots, met in the tree, are its output.
 ghost use Rattle.std.specs.Prelude.{◌≡◌};
-ghost use Rattle.refusals.specs.Said.{outcomeSays};
+ghost use Rattle.refusals.specs.Said.{outcome_says};
 ghost use Rattle.stepped_shape.specs.Layer.{memory};
-ghost use Rattle.stepped.specs.Says.{closeSays};
+ghost use Rattle.stepped.specs.Says.{close_says};
 
 use layouts::Named;
 use refusals::{Check, Outcome};
@@ -11,8 +11,8 @@ use stepped_shape::{Layer, close_refusal};
 
 // Writes the row's output; closing again is allowed. Refuses 12, 6, 2, 5, 8 and 10, in this order.
 pub fn close(l: Layer, row: usize, slots: &[f32], marks: &[u8], y: &mut [f32]) -> Outcome
-    ensures { (outcomeSays result, y.new)
-        ≡ closeSays l row (memory slots.now marks.now) y.old }
+    ensures { (outcome_says result, y.new)
+        ≡ close_says l row (memory slots.now marks.now) y.old }
 {
     let Named::Known(_) = layouts::format_named(l.format) else {
         return Outcome::Refused(refusals::UNKNOWN);

@@ -1,9 +1,9 @@
 // Open: marks to 0 and slots to +0.0.
 ghost use Rattle.std.specs.Prelude.{◌≡◌, length};
-ghost use Rattle.refusals.specs.Said.{outcomeSays};
+ghost use Rattle.refusals.specs.Said.{outcome_says};
 ghost use Rattle.memory.specs.Lists.{table};
 ghost use Rattle.stepped_shape.specs.Layer.{memory};
-ghost use Rattle.stepped.specs.Says.{noSum, noMark, openSays};
+ghost use Rattle.stepped.specs.Says.{no_sum, no_mark, open_says};
 
 use layouts::Named;
 use refusals::{Check, Outcome};
@@ -11,7 +11,7 @@ use stepped_shape::{Layer, open_refusal, pieces_of};
 
 // Slots become +0.0.
 fn clear_slots(slots: &mut [f32])
-    ensures { slots.new ≡ table noSum (length slots.old) }
+    ensures { slots.new ≡ table no_sum (length slots.old) }
 {
     let mut i: usize = 0;
     while i < slots.len() {
@@ -22,7 +22,7 @@ fn clear_slots(slots: &mut [f32])
 
 // Marks become 0.
 fn clear_marks(marks: &mut [u8])
-    ensures { marks.new ≡ table noMark (length marks.old) }
+    ensures { marks.new ≡ table no_mark (length marks.old) }
 {
     let mut i: usize = 0;
     while i < marks.len() {
@@ -33,8 +33,8 @@ fn clear_marks(marks: &mut [u8])
 
 // Clears the marks and the slots of every piece. Refuses 12, 6, 2 and 5, in this order.
 pub fn open(l: Layer, slots: &mut [f32], marks: &mut [u8]) -> Outcome
-    ensures { (outcomeSays result, memory slots.new marks.new)
-        ≡ openSays l (memory slots.old marks.old) }
+    ensures { (outcome_says result, memory slots.new marks.new)
+        ≡ open_says l (memory slots.old marks.old) }
 {
     let Named::Known(_) = layouts::format_named(l.format) else {
         return Outcome::Refused(refusals::UNKNOWN);

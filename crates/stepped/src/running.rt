@@ -1,9 +1,9 @@
 // Run: the next open pieces, as many as a budget allows.
 ghost use Rattle.std.specs.Prelude.{◌≡◌, length};
 ghost use Rattle.stepped_shape.specs.Layer.{memory};
-ghost use Rattle.stepped_shape.specs.Progress.{progressSays};
+ghost use Rattle.stepped_shape.specs.Progress.{progress_says};
 ghost use Rattle.stepped_shape.specs.Inner.{LayerReady, PieceRoom};
-ghost use Rattle.stepped.specs.Says.{work, runWork, runSays};
+ghost use Rattle.stepped.specs.Says.{work, run_work, run_says};
 
 use layouts::{FormatK, Named};
 use refusals::Check;
@@ -23,7 +23,7 @@ fn work_open(
     requires { LayerReady format l (length w.now) (length x.now)
         × PieceRoom l (length slots.old) (length marks.old) }
     ensures { work (memory slots.new marks.new) result
-        ≡ runWork format l w.now x.now budget
+        ≡ run_work format l w.now x.now budget
         (memory slots.old marks.old) }
 {
     let rows = l.out_feat;
@@ -54,8 +54,8 @@ pub fn run(
     slots: &mut [f32],
     marks: &mut [u8],
 ) -> Progress
-    ensures { (progressSays result, memory slots.new marks.new)
-        ≡ runSays l w.now x.now budget
+    ensures { (progress_says result, memory slots.new marks.new)
+        ≡ run_says l w.now x.now budget
         (memory slots.old marks.old) }
 {
     let Named::Known(format) = layouts::format_named(l.format) else {

@@ -1,9 +1,9 @@
 // Piece: one chunk of one row, into its own slot.
 ghost use Rattle.std.specs.Prelude.{◌≡◌, length};
-ghost use Rattle.refusals.specs.Said.{outcomeSays};
+ghost use Rattle.refusals.specs.Said.{outcome_says};
 ghost use Rattle.stepped_shape.specs.Layer.{memory};
 ghost use Rattle.stepped_shape.specs.Inner.{LayerReady, PieceRoom, InLayer};
-ghost use Rattle.stepped_pieces.specs.Pieces.{sum_at, worked, pieceSays};
+ghost use Rattle.stepped_pieces.specs.Pieces.{sum_at, worked, piece_says};
 
 use layouts::{FormatK, Named};
 use refusals::{Check, Outcome};
@@ -52,8 +52,8 @@ pub fn piece(
     slots: &mut [f32],
     marks: &mut [u8],
 ) -> Outcome
-    ensures { (outcomeSays result, memory slots.new marks.new)
-        ≡ pieceSays l w.now x.now row chunk
+    ensures { (outcome_says result, memory slots.new marks.new)
+        ≡ piece_says l w.now x.now row chunk
         (memory slots.old marks.old) }
 {
     let Named::Known(format) = layouts::format_named(l.format) else {

@@ -2,15 +2,15 @@
 ghost use Rattle.std.specs.Prelude.{◌≡◌, ◌<◌, ◌≤◌, length};
 ghost use Rattle.refusals.specs.Said.{done};
 ghost use Rattle.stepped_shape.specs.Layer.{pieces};
-ghost use Rattle.stepped_shape.specs.Refusals.{shapeRefusal};
-ghost use Rattle.stepped_pieces.specs.Pieces.{rowMet};
+ghost use Rattle.stepped_shape.specs.Refusals.{shape_refusal};
+ghost use Rattle.stepped_pieces.specs.Pieces.{row_met};
 
 use stepped_shape::{Layer, chunks_of};
 
 // The tree works in a copy: the slots stay. One slot is its own sum, and needs no copy.
 pub fn meet(l: Layer, row: usize, slots: &[f32]) -> f32
-    requires { (shapeRefusal l ≡ done) × (row < l.out_feat) × (pieces l ≤ length slots.now) }
-    ensures { result ≡ rowMet l slots.now row }
+    requires { (shape_refusal l ≡ done) × (row < l.out_feat) × (pieces l ≤ length slots.now) }
+    ensures { result ≡ row_met l slots.now row }
 {
     let n = chunks_of(l);
     let at = row * n;

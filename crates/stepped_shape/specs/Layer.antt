@@ -6,8 +6,8 @@ use Rattle.sums.specs.Rows.{chunks_in}
 use Rattle.stepped_shape.specs.declared.shape.Layer.{Layer}
 
 -- the layer of a format, in_feat and out_feat
-abbrev pub layerOf : (format inFeat outFeat : ℕ) → Layer
-layerOf format inFeat outFeat = record { format = format; in_feat = inFeat; out_feat = outFeat }
+abbrev pub layer_of : (format in_feat out_feat : ℕ) → Layer
+layer_of format in_feat out_feat = record { format = format; in_feat = in_feat; out_feat = out_feat }
 
 -- what a layer is worked in: a slot, for a sum, and a mark for each piece
 pub record Memory : Type 0 where
@@ -35,18 +35,18 @@ place l row c = row * chunks l + c
 -- ---- the marks
 
 -- a nonzero mark means done: 1 for a piece that is open, 0 for one that is done
-abbrev pub isOpen : ℕ → ℕ
-isOpen mark = cond (eqb mark 0) 1 0
+abbrev pub is_open : ℕ → ℕ
+is_open mark = cond (eqb mark 0) 1 0
 
 -- how many of these marks are open
-unfoldable pub openCount : List ℕ → ℕ
-openCount [] = 0
-openCount (m ∷ ms) = isOpen m + openCount ms
+unfoldable pub open_count : List ℕ → ℕ
+open_count [] = 0
+open_count (m ∷ ms) = is_open m + open_count ms
 
 -- how many of the layer's pieces are open
-unfoldable pub openOf : Layer → List ℕ → ℕ
-openOf l marks = openCount (take (pieces l) marks)
+unfoldable pub open_of : Layer → List ℕ → ℕ
+open_of l marks = open_count (take (pieces l) marks)
 
 -- how many pieces of a row are open
-unfoldable pub openInRow : Layer → List ℕ → ℕ → ℕ
-openInRow l marks row = openCount (part marks (row * chunks l) (chunks l))
+unfoldable pub open_in_row : Layer → List ℕ → ℕ → ℕ
+open_in_row l marks row = open_count (part marks (row * chunks l) (chunks l))

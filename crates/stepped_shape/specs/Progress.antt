@@ -14,6 +14,6 @@ abbrev pub ran : (done left : ℕ) → Ran
 ran done left = record { done = done; left = left }
 
 -- what each answer of run says
-abbrev pub progressSays : Progress → Said Ran
-progressSays (progress.Ran done left) = value (ran done left)
-progressSays (progress.Refused why) = refused why
+abbrev pub progress_says : Progress → Said Ran
+progress_says (progress.Ran done left) = value (ran done left)
+progress_says (progress.Refused why) = refused why

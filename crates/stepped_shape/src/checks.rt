@@ -1,14 +1,14 @@
 // Why a call whose layer's format is known says no, in document 01's order.
 ghost use Rattle.std.specs.Prelude.{◌≡◌, ◌≤◌, length};
-ghost use Rattle.refusals.specs.Said.{done, checkSays};
-ghost use Rattle.stepped_shape.specs.Layer.{openCount};
+ghost use Rattle.refusals.specs.Said.{done, check_says};
+ghost use Rattle.stepped_shape.specs.Layer.{open_count};
 ghost use Rattle.stepped_shape.specs.Refusals.{
-  shapeRefusal,
-  roomRefusal,
-  openRefusal,
-  workRefusal,
-  pieceRefusal,
-  closeRefusal,
+  shape_refusal,
+  room_refusal,
+  open_refusal,
+  work_refusal,
+  piece_refusal,
+  close_refusal,
 };
 
 use crate::shape::{Layer, chunks_of, pieces_of, place_of};
@@ -18,7 +18,7 @@ use refusals::Check;
 
 // The layer itself: a size, in_feat not a multiple of 256.
 fn shape_refusal(l: Layer) -> Check
-    ensures { checkSays result ≡ shapeRefusal l }
+    ensures { check_says result ≡ shape_refusal l }
 {
     if l.in_feat > refusals::MOST_IN {
         return Check::Refused(refusals::TOO_LARGE);
@@ -34,8 +34,8 @@ fn shape_refusal(l: Layer) -> Check
 
 // A slot and a mark for each piece.
 fn room_refusal(l: Layer, slots: usize, marks: usize) -> Check
-    requires { shapeRefusal l ≡ done }
-    ensures { checkSays result ≡ roomRefusal l slots marks }
+    requires { shape_refusal l ≡ done }
+    ensures { check_says result ≡ room_refusal l slots marks }
 {
     let n = pieces_of(l);
     if slots < n {
@@ -49,7 +49,7 @@ fn room_refusal(l: Layer, slots: usize, marks: usize) -> Check
 
 // What open refuses.
 pub fn open_refusal(l: Layer, slots: usize, marks: usize) -> Check
-    ensures { checkSays result ≡ openRefusal l slots marks }
+    ensures { check_says result ≡ open_refusal l slots marks }
 {
     if let Check::Refused(refusal) = shape_refusal(l) {
         return Check::Refused(refusal);
@@ -66,7 +66,7 @@ pub fn work_refusal(
     slots: usize,
     marks: usize,
 ) -> Check
-    ensures { checkSays result ≡ workRefusal format l weights readings slots marks }
+    ensures { check_says result ≡ work_refusal format l weights readings slots marks }
 {
     if let Check::Refused(refusal) = shape_refusal(l) {
         return Check::Refused(refusal);
@@ -91,7 +91,7 @@ pub fn piece_refusal(
     row: usize,
     chunk: usize,
 ) -> Check
-    ensures { checkSays result ≡ pieceRefusal format l weights readings slots marks.now row chunk }
+    ensures { check_says result ≡ piece_refusal format l weights readings slots marks.now row chunk }
 {
     if let Check::Refused(refusal) = work_refusal(
         format,
@@ -120,7 +120,7 @@ pub fn piece_refusal(
 // of which a vector holds twice as many as of 64.
 pub fn count_open(marks: &[u8]) -> usize
     requires { length marks.now ≤ 1048576 }
-    ensures { result ≡ openCount marks.now }
+    ensures { result ≡ open_count marks.now }
 {
     let mut n: u32 = 0;
     let mut i: usize = 0;
@@ -135,7 +135,7 @@ pub fn count_open(marks: &[u8]) -> usize
 
 // What close refuses.
 pub fn close_refusal(l: Layer, slots: usize, marks: &[u8], outputs: usize, row: usize) -> Check
-    ensures { checkSays result ≡ closeRefusal l slots marks.now outputs row }
+    ensures { check_says result ≡ close_refusal l slots marks.now outputs row }
 {
     if let Check::Refused(refusal) = open_refusal(l, slots, marks.len()) {
         return Check::Refused(refusal);

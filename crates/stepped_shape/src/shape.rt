@@ -2,7 +2,7 @@
 ghost use Rattle.std.specs.Prelude.{◌≡◌, ◌<◌};
 ghost use Rattle.refusals.specs.Said.{done};
 ghost use Rattle.stepped_shape.specs.Layer.{chunks, pieces, place};
-ghost use Rattle.stepped_shape.specs.Refusals.{shapeRefusal};
+ghost use Rattle.stepped_shape.specs.Refusals.{shape_refusal};
 ghost use Rattle.stepped_shape.specs.Inner.{InLayer};
 
 // A format byte (4 is Q4_K, 5 is Q5_K, 6 is Q6_K), and how many readings go in and outputs come out.
@@ -15,7 +15,7 @@ pub struct Layer {
 
 // The chunks of a row.
 pub fn chunks_of(l: Layer) -> usize
-    requires { shapeRefusal l ≡ done }
+    requires { shape_refusal l ≡ done }
     ensures { result ≡ chunks l }
 {
     sums::chunks_in(l.in_feat)
@@ -23,7 +23,7 @@ pub fn chunks_of(l: Layer) -> usize
 
 // The piece count.
 pub fn pieces_of(l: Layer) -> usize
-    requires { shapeRefusal l ≡ done }
+    requires { shape_refusal l ≡ done }
     ensures { result ≡ pieces l }
 {
     l.out_feat * chunks_of(l)
@@ -31,7 +31,7 @@ pub fn pieces_of(l: Layer) -> usize
 
 // The place of (row, chunk) among slots and marks.
 pub fn place_of(l: Layer, row: usize, chunk: usize) -> usize
-    requires { (shapeRefusal l ≡ done) × InLayer l row chunk }
+    requires { (shape_refusal l ≡ done) × InLayer l row chunk }
     ensures { (result ≡ place l row chunk) × (result < pieces l) }
 {
     row * chunks_of(l) + chunk

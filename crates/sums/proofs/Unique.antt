@@ -3,8 +3,8 @@ use Rattle.refusals.proofs.Once.{OneResult, same, one_answer}
 use Rattle.sums.proofs.dot.canonical_dot_pub.Reads as dot
 use Rattle.sums.proofs.sum.canonical_sum_pub.Reads as sum
 
-pub dot-once : OneResult dot.Post
-dot-once κs a x y s t h k = one_answer x y (same h k)
+pub dot_once : OneResult dot.Post
+dot_once κs a x y s t h k = one_answer x y (same h k)
 
-pub sum-once : OneResult sum.Post
-sum-once κs a x y s t h k = one_answer x y (same h k)
+pub sum_once : OneResult sum.Post
+sum_once κs a x y s t h k = one_answer x y (same h k)

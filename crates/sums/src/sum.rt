@@ -1,10 +1,10 @@
 // The sum of a row: the sums of its chunks meet in the tree.
 ghost use Rattle.std.specs.Prelude.{◌≡◌, ◌≤◌, length};
-ghost use Rattle.refusals.specs.Said.{saidBy};
-ghost use Rattle.refusals.specs.Sizes.{mostIn};
+ghost use Rattle.refusals.specs.Said.{said_by};
+ghost use Rattle.refusals.specs.Sizes.{most_in};
 ghost use Rattle.sums_lanes.specs.Lanes.{values};
-ghost use Rattle.sums.specs.Rows.{rowSum};
-ghost use Rattle.sums.specs.Says.{sumSays};
+ghost use Rattle.sums.specs.Rows.{row_sum};
+ghost use Rattle.sums.specs.Says.{sum_says};
 
 use crate::chunks::{CHUNK, MOST_CHUNKS, chunk_end, chunks_in};
 use refusals::Answer;
@@ -13,8 +13,8 @@ use sums_tree::canonical_combine;
 
 // The sum of the first n places.
 fn row_total(x: &[f32], n: usize) -> f32
-    requires { (n ≤ mostIn) × (n ≤ length x.now) }
-    ensures { result ≡ rowSum (values x.now) n }
+    requires { (n ≤ most_in) × (n ≤ length x.now) }
+    ensures { result ≡ row_sum (values x.now) n }
 {
     let chunks = chunks_in(n);
     let mut sums = [0.0f32; MOST_CHUNKS];
@@ -30,7 +30,7 @@ fn row_total(x: &[f32], n: usize) -> f32
 
 // The sum of the first n readings. Refuses 6, answers n = 0 with +0.0, refuses 4, in this order.
 pub fn canonical_sum_pub(x: &[f32], n: usize) -> Answer
-    ensures { saidBy result ≡ sumSays x.now n }
+    ensures { said_by result ≡ sum_says x.now n }
 {
     if n > refusals::MOST_IN {
         return Answer::Refused(refusals::TOO_LARGE);

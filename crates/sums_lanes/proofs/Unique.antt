@@ -2,5 +2,5 @@
 use Rattle.refusals.proofs.Once.{OneResult, same, one_answer}
 use Rattle.sums_lanes.proofs.lanes.canonical_chunk.Reads as chunk
 
-pub chunk-once : OneResult chunk.Post
-chunk-once κs a x y s t h k = one_answer x y (same h k)
+pub chunk_once : OneResult chunk.Post
+chunk_once κs a x y s t h k = one_answer x y (same h k)

@@ -7,21 +7,21 @@ use Rattle.numbers.specs.Steps.{nought}
 use Rattle.sums_tree.specs.Tree.{tree}
 
 -- v is added to lane j
-unfoldable pub addTo : List Float → ℕ → Float → List Float
-addTo l j v = set l j (add binary32 (get_or l j nan) v)
+unfoldable pub add_to : List Float → ℕ → Float → List Float
+add_to l j v = set l j (add binary32 (get_or l j nan) v)
 
 -- the lanes l after the first n terms: term i is added to lane i mod 8, i rising
-unfoldable pub lanesFrom : List Float → (ℕ → Float) → ℕ → List Float
-lanesFrom l p zero = l
-lanesFrom l p (suc i) = addTo (lanesFrom l p i) (i % 8) (p i)
+unfoldable pub lanes_from : List Float → (ℕ → Float) → ℕ → List Float
+lanes_from l p zero = l
+lanes_from l p (suc i) = add_to (lanes_from l p i) (i % 8) (p i)
 
 -- eight lanes start at +0.0
 unfoldable pub lanes : (ℕ → Float) → ℕ → List Float
-lanes p n = lanesFrom (replicate 8 nought) p n
+lanes p n = lanes_from (replicate 8 nought) p n
 
 -- lanes meet in a pairwise tree
-unfoldable pub chunkSum : (ℕ → Float) → ℕ → Float
-chunkSum p n = tree (lanes p n)
+unfoldable pub chunk_sum : (ℕ → Float) → ℕ → Float
+chunk_sum p n = tree (lanes p n)
 
 -- the terms of a dot: element i is multiplied
 abbrev pub products : List Float → List Float → ℕ → Float

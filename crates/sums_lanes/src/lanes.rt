@@ -1,9 +1,9 @@
 // The eight lanes: term i of a chunk is added to lane i mod 8, and the lanes meet in the tree. They go by value, eight
 // terms at a time, so that they stay in registers.
 ghost use Rattle.std.specs.Prelude.{◌≡◌, ◌≤◌, length};
-ghost use Rattle.refusals.specs.Said.{saidBy};
-ghost use Rattle.sums_lanes.specs.Lanes.{lanesFrom, chunkSum, products, values};
-ghost use Rattle.sums_lanes.specs.Says.{chunkSays};
+ghost use Rattle.refusals.specs.Said.{said_by};
+ghost use Rattle.sums_lanes.specs.Lanes.{lanes_from, chunk_sum, products, values};
+ghost use Rattle.sums_lanes.specs.Says.{chunk_says};
 
 use refusals::Answer;
 use sums_tree::tree8;
@@ -12,7 +12,7 @@ use sums_tree::tree8;
 // vectors hold.
 fn eight_products(l: [f32; 8], x: &[f32], w: &[f32]) -> [f32; 8]
     requires { (length x.now ≤ 8) × (length x.now ≤ length w.now) }
-    ensures { result ≡ lanesFrom l (products x.now w.now) (length x.now) }
+    ensures { result ≡ lanes_from l (products x.now w.now) (length x.now) }
 {
     let mut out = l;
     let mut i: usize = 0;
@@ -27,7 +27,7 @@ fn eight_products(l: [f32; 8], x: &[f32], w: &[f32]) -> [f32; 8]
 // lanes stay in registers to the end.
 pub fn add_products(l: [f32; 8], x: &[f32], w: &[f32]) -> [f32; 8]
     requires { length x.now ≤ length w.now }
-    ensures { result ≡ lanesFrom l (products x.now w.now) (length x.now) }
+    ensures { result ≡ lanes_from l (products x.now w.now) (length x.now) }
 {
     let n = x.len();
     let mut out = l;
@@ -47,14 +47,14 @@ pub fn add_products(l: [f32; 8], x: &[f32], w: &[f32]) -> [f32; 8]
 // The dot of one chunk, all of x.
 pub fn chunk_dot(x: &[f32], w: &[f32]) -> f32
     requires { length x.now ≤ length w.now }
-    ensures { result ≡ chunkSum (products x.now w.now) (length x.now) }
+    ensures { result ≡ chunk_sum (products x.now w.now) (length x.now) }
 {
     tree8(add_products([0.0f32; 8], x, w))
 }
 
 // The dot of all of x as one chunk. Refuses 6 and 3, in this order.
 pub fn canonical_chunk(x: &[f32], w: &[f32]) -> Answer
-    ensures { saidBy result ≡ chunkSays x.now w.now }
+    ensures { said_by result ≡ chunk_says x.now w.now }
 {
     let n = x.len();
     if n > refusals::MOST_FLOATS {
@@ -69,7 +69,7 @@ pub fn canonical_chunk(x: &[f32], w: &[f32]) -> Answer
 // Eight values at most, one for each lane: `eight_products` without weights.
 fn eight_values(l: [f32; 8], x: &[f32]) -> [f32; 8]
     requires { length x.now ≤ 8 }
-    ensures { result ≡ lanesFrom l (values x.now) (length x.now) }
+    ensures { result ≡ lanes_from l (values x.now) (length x.now) }
 {
     let mut out = l;
     let mut i: usize = 0;
@@ -82,7 +82,7 @@ fn eight_values(l: [f32; 8], x: &[f32]) -> [f32; 8]
 
 // The lanes `l` after the values of x, the first of which is for lane 0.
 fn add_values(l: [f32; 8], x: &[f32]) -> [f32; 8]
-    ensures { result ≡ lanesFrom l (values x.now) (length x.now) }
+    ensures { result ≡ lanes_from l (values x.now) (length x.now) }
 {
     let n = x.len();
     let mut out = l;
@@ -98,7 +98,7 @@ fn add_values(l: [f32; 8], x: &[f32]) -> [f32; 8]
 
 // The sum of one chunk, all of x.
 pub fn chunk_total(x: &[f32]) -> f32
-    ensures { result ≡ chunkSum (values x.now) (length x.now) }
+    ensures { result ≡ chunk_sum (values x.now) (length x.now) }
 {
     tree8(add_values([0.0f32; 8], x))
 }

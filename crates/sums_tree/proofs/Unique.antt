@@ -2,5 +2,5 @@
 use Rattle.refusals.proofs.Once.{OneCall, both}
 use Rattle.sums_tree.proofs.tree.canonical_combine.Reads as combine
 
-pub combine-once : OneCall combine.Post (λ κs s. s.0.now)
-combine-once κs a x y s t h k = both h k
+pub combine_once : OneCall combine.Post (λ κs s. s.0.now)
+combine_once κs a x y s t h k = both h k

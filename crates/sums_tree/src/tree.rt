@@ -1,13 +1,13 @@
 // The pairwise tree: neighbours are added, an odd last one moves up, until one is left.
 ghost use Rattle.std.specs.Prelude.{◌≡◌, ◌++◌, ◌+◌, ◌/◌, ◌≤◌, length, take, drop};
-ghost use Rattle.sums_tree.specs.Tree.{pairUp, tree, combined};
+ghost use Rattle.sums_tree.specs.Tree.{pair_up, tree, combined};
 
 // One round over the first `len` places, whose sums fill the front half. Returns how many there are.
 fn round(part: &mut [f32], len: usize) -> usize
     requires { len ≤ length part.old }
     ensures value { result ≡ (len + 1) / 2 }
     ensures part_after { part.new
-        ≡ pairUp (take len part.old) ++ drop ((len + 1) / 2) part.old }
+        ≡ pair_up (take len part.old) ++ drop ((len + 1) / 2) part.old }
 {
     let pairs = len / 2;
     let mut t: usize = 0;

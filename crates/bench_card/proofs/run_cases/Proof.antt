@@ -15,8 +15,8 @@ decreases-loop x wrong₀ cases case₀ t8 t9 wrong case = 7 - case
 loop-again : tie.Need-loop-preserved invariant-loop decreases-loop
 loop-again c = (omega arith, omega (arith, one_more c.before.before.if1.right c.before.before.before.before.before.loop.wrong c.judged.result c.judged.ensures))
 
-pub run-cases-spec : {M : Type 1} → statement M
-run-cases-spec =
+pub run_cases_spec : {M : Type 1} → statement M
+run_cases_spec =
     tie.close
     (tie.spec
     invariant-loop

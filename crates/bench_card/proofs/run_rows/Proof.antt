@@ -17,8 +17,8 @@ loop-again : tie.Need-loop-preserved invariant-loop decreases-loop
 loop-again c =
     (omega arith, omega arith, (rw c.before.row-holds.ensures at c.judged.ensures) ∙ c.before.before.before.before.loop.invariant.2)
 
-pub run-rows-spec : {M : Type 1} → statement M
-run-rows-spec =
+pub run_rows_spec : {M : Type 1} → statement M
+run_rows_spec =
     tie.close
     (tie.spec
     invariant-loop

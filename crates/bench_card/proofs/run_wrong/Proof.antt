@@ -16,8 +16,8 @@ judged-requires-3 c κs =
     let j = i.before.before.before in
     omega (arith, one_more j.before.before.holds.result 0 j.judged.result j.judged.ensures, one_more i.before.before.against-ones.result j.judged.result i.judged2.result i.judged2.ensures)
 
-pub run-wrong-spec : {M : Type 1} → statement M
-run-wrong-spec =
+pub run_wrong_spec : {M : Type 1} → statement M
+run_wrong_spec =
     tie.close
     (tie.spec
     (λ c κs. search rules)

@@ -16,5 +16,5 @@ returns-3 : tie.Need-returns-3
 unfolding oversize
 returns-3 c = simp (le-ltb _ _ c.before.before.before.if1.false, le-ltb _ _ c.before.if2.false)
 
-pub is-oversize-spec : {M : Type 1} → statement M
-is-oversize-spec = tie.close (tie.spec returns returns-2 returns-3)
+pub is_oversize_spec : {M : Type 1} → statement M
+is_oversize_spec = tie.close (tie.spec returns returns-2 returns-3)

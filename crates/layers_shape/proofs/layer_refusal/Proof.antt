@@ -4,33 +4,33 @@ use native.Mathlib.Omega.{arith}
 use borrow.Author.Rules.{rules}
 use borrow.Author.Tests.{lt-ltb, le-ltb, eq-eqb, ne_eqb}
 use Rattle.refusals.specs.Refusals.{given}
-use Rattle.layers_shape.specs.Shapes.{layerRefusal}
-use Rattle.layers_shape.proofs.Fits.{InSizes, in-sizes, product_small}
+use Rattle.layers_shape.specs.Shapes.{layer_refusal}
+use Rattle.layers_shape.proofs.Fits.{InSizes, in_sizes, product_small}
 use Rattle.layers_shape.proofs.layer_refusal.Statement.{statement}
 use Rattle.layers_shape.proofs.layer_refusal.Tie as tie
 
 -- past the first check no size is over its most
 sized : (c : tie.Else1) → InSizes c.before.before.args.s
-sized c = in-sizes c.before.before.args.s (sym c.before.is-oversize.ensures ∙ c.if1.false)
+sized c = in_sizes c.before.before.args.s (sym c.before.is-oversize.ensures ∙ c.if1.false)
 
 returns : tie.Need-returns
-unfolding layerRefusal given
+unfolding layer_refusal given
 returns c = simp (sym c.before.is-oversize.ensures, c.if1.true)
 
 returns-2 : tie.Need-returns-2
-unfolding layerRefusal given
+unfolding layer_refusal given
 returns-2 c =
     let a = c.before.before in
     simp (sym a.before.is-oversize.ensures, a.if1.false, ne_eqb _ _ c.if2.true)
 
 weight-bytes-requires : tie.Need-weight-bytes-requires
-weight-bytes-requires c κs = let z = sized c.before.before in (z.in-in, z.out-in)
+weight-bytes-requires c κs = let z = sized c.before.before in (z.in_in, z.out_in)
 
 layer-short-requires : tie.Need-layer-short-requires
-layer-short-requires c κs = let z = sized c.before.before.before.before in (z.in-in, z.out-in)
+layer-short-requires c κs = let z = sized c.before.before.before.before in (z.in_in, z.out_in)
 
 returns-3 : tie.Need-returns-3
-unfolding layerRefusal given
+unfolding layer_refusal given
 returns-3 c =
     let i = c.before in
     let a = i.before.before.before.before in
@@ -42,10 +42,10 @@ mul-if4 c =
     let a = c.before.before.before.before.before in
     let s = a.before.before.args.s in
     let z = sized a in
-    omega (arith, product_small s.batch s.in_feat 1024 131072 z.batch-in z.in-in)
+    omega (arith, product_small s.batch s.in_feat 1024 131072 z.batch_in z.in_in)
 
 returns-4 : tie.Need-returns-4
-unfolding layerRefusal given
+unfolding layer_refusal given
 returns-4 c =
     let b = c.before.before in
     let a = b.before.before.before.before in
@@ -57,10 +57,10 @@ mul-if5 c =
     let a = c.before.before.before.before.before.before.before in
     let s = a.before.before.args.s in
     let z = sized a in
-    omega (arith, product_small s.batch s.out_feat 1024 65536 z.batch-in z.out-in)
+    omega (arith, product_small s.batch s.out_feat 1024 65536 z.batch_in z.out_in)
 
 returns-5 : tie.Need-returns-5
-unfolding layerRefusal given
+unfolding layer_refusal given
 returns-5 c =
     let d = c.before.before in
     let b = d.before.before in
@@ -76,7 +76,7 @@ returns-5 c =
     )
 
 returns-6 : tie.Need-returns-6
-unfolding layerRefusal given
+unfolding layer_refusal given
 returns-6 c =
     let d = c.before.before in
     let b = d.before.before in
@@ -91,8 +91,8 @@ returns-6 c =
       le-ltb _ _ c.if5.false,
     )
 
-pub layer-refusal-spec : {M : Type 1} → statement M
-layer-refusal-spec =
+pub layer_refusal_spec : {M : Type 1} → statement M
+layer_refusal_spec =
     tie.close
     (tie.spec
     (λ c κs. search rules)

@@ -11,5 +11,5 @@ mul-weights-short c =
     let a = c.args in
     omega (arith, product_small a.out-feat (a.in-feat / 256) 65536 512 c.requires.1 (omega (arith, c.requires.0)))
 
-pub layer-short-spec : {M : Type 1} → statement M
-layer-short-spec = tie.close (tie.spec mul-weights-short (λ c κs. search rules) (λ c. search rules))
+pub layer_short_spec : {M : Type 1} → statement M
+layer_short_spec = tie.close (tie.spec mul-weights-short (λ c κs. search rules) (λ c. search rules))

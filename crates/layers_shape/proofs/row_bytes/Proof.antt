@@ -13,5 +13,5 @@ mul-result c = record { fits = rw c.block-bytes.ensures (omega (arith, row_small
 returns : tie.Need-returns
 returns c = ap (λ (z : ℕ). c.before.args.n / 256 * z) c.block-bytes.ensures
 
-pub row-bytes-spec : {M : Type 1} → statement M
-row-bytes-spec = tie.close (tie.spec (λ c κs. search rules) mul-result returns)
+pub row_bytes_spec : {M : Type 1} → statement M
+row_bytes_spec = tie.close (tie.spec (λ c κs. search rules) mul-result returns)

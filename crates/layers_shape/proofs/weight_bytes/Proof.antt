@@ -19,5 +19,5 @@ mul-result c =
 returns : tie.Need-returns
 returns c = ap (λ (z : ℕ). c.before.args.out-feat * z) c.row-bytes.ensures
 
-pub weight-bytes-spec : {M : Type 1} → statement M
-weight-bytes-spec = tie.close (tie.spec row-bytes-requires mul-result returns)
+pub weight_bytes_spec : {M : Type 1} → statement M
+weight_bytes_spec = tie.close (tie.spec row-bytes-requires mul-result returns)

@@ -7,34 +7,34 @@ use lib.Signed.{mag, lt_z}
 use mir.Syntax.{w8, w16}
 use mir.Val.{to_z, of_z}
 use borrow.Author.Rules.{rules}
-use Rattle.numbers.proofs.Signed.{read_is, byteRead}
-use Rattle.nearest.specs.Inner.{nextIsNearer}
+use Rattle.numbers.proofs.Signed.{read_is, byte_read}
+use Rattle.nearest.specs.Inner.{next_is_nearer}
 use Rattle.nearest.proofs.next_is_nearer.Statement.{statement}
 use Rattle.nearest.proofs.next_is_nearer.Tie as tie
 
 -- the sum of two bytes, as the code compares it
-read-sum : (x y : ℤ) {s : ℤ} → mag s < 2 ^ 15 → mag x < 128 → mag y < 128 → s ≡ byteRead x +ℤ byteRead y → to_z w16 (of_z w16 s) ≡ x +ℤ y
-read-sum x y {s} p h k e = read_is w16 s p ∙ e ∙ ap (λ (z : ℤ). z +ℤ byteRead y) (read_is w8 x h) ∙ ap (λ (z : ℤ). x +ℤ z) (read_is w8 y k)
+read_sum : (x y : ℤ) {s : ℤ} → mag s < 2 ^ 15 → mag x < 128 → mag y < 128 → s ≡ byte_read x +ℤ byte_read y → to_z w16 (of_z w16 s) ≡ x +ℤ y
+read_sum x y {s} p h k e = read_is w16 s p ∙ e ∙ ap (λ (z : ℤ). z +ℤ byte_read y) (read_is w8 x h) ∙ ap (λ (z : ℤ). x +ℤ z) (read_is w8 y k)
 
 -- what the code compares is what the definition does
 told : (c : tie.After-sum-of2) → (let a = c.before.before.args in lt_z (to_z w16 (of_z w16 c.before.sum_of.result)) (to_z w16 (of_z w16 c.sum-of2.result)) ≡ lt_z (a.value +ℤ a.next) (a.q +ℤ a.q))
 told c =
     let s = c.before.before in
     let q = s.ranges.q.sfits in
-    let both : to_z w16 (of_z w16 c.before.sum_of.result) ≡ s.args.value +ℤ s.args.next = read-sum s.args.value s.args.next c.before.sum_of.type-inv s.ranges.value.sfits s.ranges.next.sfits c.before.sum_of.ensures in
-    let twice : to_z w16 (of_z w16 c.sum-of2.result) ≡ s.args.q +ℤ s.args.q = read-sum s.args.q s.args.q c.sum-of2.type-inv q q c.sum-of2.ensures in
+    let both : to_z w16 (of_z w16 c.before.sum_of.result) ≡ s.args.value +ℤ s.args.next = read_sum s.args.value s.args.next c.before.sum_of.type-inv s.ranges.value.sfits s.ranges.next.sfits c.before.sum_of.ensures in
+    let twice : to_z w16 (of_z w16 c.sum-of2.result) ≡ s.args.q +ℤ s.args.q = read_sum s.args.q s.args.q c.sum-of2.type-inv q q c.sum-of2.ensures in
     rw (both, twice)
 
 sum-of-requires-2 : tie.Need-sum-of-requires-2
 sum-of-requires-2 c κs = search rules
 
 returns : tie.Need-returns
-unfolding nextIsNearer
+unfolding next_is_nearer
 returns c = (rw (sym (told c.before) ∙ c.if1.true), omega arith)
 
 returns-2 : tie.Need-returns-2
-unfolding nextIsNearer
+unfolding next_is_nearer
 returns-2 c = (rw (sym (told c.before) ∙ c.if1.false), omega arith)
 
-pub next-is-nearer-spec : {M : Type 1} → statement M
-next-is-nearer-spec = tie.close (tie.spec (λ c κs. search rules) sum-of-requires-2 returns returns-2)
+pub next_is_nearer_spec : {M : Type 1} → statement M
+next_is_nearer_spec = tie.close (tie.spec (λ c κs. search rules) sum-of-requires-2 returns returns-2)

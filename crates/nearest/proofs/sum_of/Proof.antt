@@ -49,5 +49,5 @@ returns c =
     let b = c.ranges.b.sfits in
     rw (wide_is c.args.a a, wide_is c.args.b b) (read_is w16 _ (omega (arith, small c.args.a c.args.b a b)))
 
-pub sum-of-spec : {M : Type 1} → statement M
-sum-of-spec = tie.close (tie.spec cast-result cast-result-2 add-result returns)
+pub sum_of_spec : {M : Type 1} → statement M
+sum_of_spec = tie.close (tie.spec cast-result cast-result-2 add-result returns)

@@ -15,5 +15,5 @@ returns c = search rules
 returns-2 : tie.Need-returns-2
 returns-2 c = cc
 
-pub passed-on-spec : {M : Type 1} → statement M
-passed-on-spec = tie.close (tie.spec enum_told enum-known-answer returns returns-2)
+pub passed_on_spec : {M : Type 1} → statement M
+passed_on_spec = tie.close (tie.spec enum_told enum-known-answer returns returns-2)

@@ -12,8 +12,8 @@ decreases-loop buf₀ replay₀ turns₀ buf replay turns = turns
 loop-holds : tie.Need-loop-init invariant-loop decreases-loop
 loop-holds c = refl
 
-pub replay-all-spec : {M : Type 1} → statement M
-replay-all-spec =
+pub replay_all_spec : {M : Type 1} → statement M
+replay_all_spec =
     tie.close
     (tie.spec
     invariant-loop

@@ -6,8 +6,8 @@ use Rattle.bench_card.proofs.report.judged.Tie as tie
 returns-2 : tie.Need-returns-2
 returns-2 c = rw c.before.before.if1.false
 
-pub judged-spec : {M : Type 1} → statement M
-judged-spec =
+pub judged_spec : {M : Type 1} → statement M
+judged_spec =
     tie.close
     (tie.spec
     (λ c κs. search rules)

@@ -3,17 +3,17 @@ use lib.Ieee.{Float}
 use borrow.Author.Rules.{rules}
 use mathlib.Core.Path.{ap, ◌∙◌}
 use Rattle.refusals.specs.Said.{Said}
-use Rattle.replay_answers.specs.Same.{sameAnswer}
-use Rattle.bench_card.specs.RunOnly.{blockOfOnes}
+use Rattle.replay_answers.specs.Same.{same_answer}
+use Rattle.bench_card.specs.RunOnly.{block_of_ones}
 use Rattle.bench_card.proofs.run_only.against_one_block.Statement.{statement}
 use Rattle.bench_card.proofs.run_only.against_one_block.Tie as tie
 
 returns : tie.Need-returns
-unfolding blockOfOnes
-returns c = c.same_answer.ensures ∙ ap (λ (t : Said Float). sameAnswer t c.before.before.before.before.args.number c.before.before.before.before.args.sum) c.before.canonical-dot-q4k-fused.ensures
+unfolding block_of_ones
+returns c = c.same_answer.ensures ∙ ap (λ (t : Said Float). same_answer t c.before.before.before.before.args.number c.before.before.before.before.args.sum) c.before.canonical-dot-q4k-fused.ensures
 
-pub against-one-block-spec : {M : Type 1} → statement M
-against-one-block-spec =
+pub against_one_block_spec : {M : Type 1} → statement M
+against_one_block_spec =
     tie.close
     (tie.spec
     (λ c. search rules)

@@ -7,10 +7,10 @@ use Rattle.bench_card.proofs.run_only.fill.Statement.{statement}
 use Rattle.bench_card.proofs.run_only.fill.Tie as tie
 
 abbrev invariant-loop : tie.invariant-loop
-invariant-loop x₀ i₀ i-end x i = length x ≡ length x₀
+invariant-loop x₀ i₀ i_end x i = length x ≡ length x₀
 
 abbrev decreases-loop : tie.decreases-loop
-decreases-loop x₀ i₀ i-end x i = i-end - i
+decreases-loop x₀ i₀ i_end x i = i_end - i
 
 pub fill_spec : {M : Type 1} → statement M
 fill_spec =

@@ -5,13 +5,13 @@ use Rattle.bench_card.proofs.run_only.plain_sum.Statement.{statement}
 use Rattle.bench_card.proofs.run_only.plain_sum.Tie as tie
 
 abbrev invariant-loop : tie.invariant-loop
-invariant-loop x n sum₀ i₀ i-end sum i = Unit {0}
+invariant-loop x n sum₀ i₀ i_end sum i = Unit {0}
 
 abbrev decreases-loop : tie.decreases-loop
-decreases-loop x n sum₀ i₀ i-end sum i = i-end - i
+decreases-loop x n sum₀ i₀ i_end sum i = i_end - i
 
-pub plain-sum-spec : {M : Type 1} → statement M
-plain-sum-spec =
+pub plain_sum_spec : {M : Type 1} → statement M
+plain_sum_spec =
     tie.close
     (tie.spec
     invariant-loop

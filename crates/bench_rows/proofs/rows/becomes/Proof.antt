@@ -12,5 +12,5 @@ returns : tie.Need-returns
 unfolding judged meant answered same_numbers answer every
 returns c = rw (c.bits_of.ensures, c.before.whole-to-f32.ensures, read_is w32 _ c.before.before.ranges.n.sfits)
 
-pub becomes-spec : {M : Type 1} → statement M
-becomes-spec = tie.close (tie.spec (λ c κs. search rules) (λ c κs. search rules) returns)
+pub becomes_spec : {M : Type 1} → statement M
+becomes_spec = tie.close (tie.spec (λ c κs. search rules) (λ c κs. search rules) returns)

@@ -10,5 +10,5 @@ returns : tie.Need-returns
 unfolding judged meant answered same_numbers answer every
 returns c = rw c.before.f32-to-f16.ensures
 
-pub encodes-spec : {M : Type 1} → statement M
-encodes-spec = tie.close (tie.spec (λ c κs. search rules) returns)
+pub encodes_spec : {M : Type 1} → statement M
+encodes_spec = tie.close (tie.spec (λ c κs. search rules) returns)

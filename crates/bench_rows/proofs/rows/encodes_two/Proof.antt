@@ -15,5 +15,5 @@ returns-2 : tie.Need-returns-2
 unfolding judged meant answered same_numbers answer every
 returns-2 c = rw (sym c.before.encodes.ensures ∙ c.if1.false) c.if1.false
 
-pub encodes-two-spec : {M : Type 1} → statement M
-encodes-two-spec = tie.close (tie.spec (λ c κs. search rules) (λ c κs. search rules) returns returns-2)
+pub encodes_two_spec : {M : Type 1} → statement M
+encodes_two_spec = tie.close (tie.spec (λ c κs. search rules) (λ c κs. search rules) returns returns-2)

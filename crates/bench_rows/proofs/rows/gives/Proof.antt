@@ -12,5 +12,5 @@ returns : tie.Need-returns
 unfolding judged meant answered same_numbers answer every
 returns c = rw (c.unsigned-byte.ensures, read_is w8 _ c.before.round-q8.type-inv, c.before.round-q8.ensures, c.before.before.of-bits.ensures)
 
-pub gives-spec : {M : Type 1} → statement M
-gives-spec = tie.close (tie.spec (λ c κs. search rules) (λ c κs. search rules) (λ c κs. search rules) returns)
+pub gives_spec : {M : Type 1} → statement M
+gives_spec = tie.close (tie.spec (λ c κs. search rules) (λ c κs. search rules) (λ c κs. search rules) returns)

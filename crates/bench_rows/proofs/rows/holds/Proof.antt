@@ -36,8 +36,8 @@ returns-8 c = c.quantizes.ensures ∙ ap judged (sym c.before.before.row8.given.
 returns-9 : tie.Need-returns-9
 returns-9 c = c.gives.ensures ∙ ap judged (sym c.before.before.row9.given.1)
 
-pub holds-spec : {M : Type 1} → statement M
-holds-spec =
+pub holds_spec : {M : Type 1} → statement M
+holds_spec =
     tie.close
     (tie.spec
     (λ c. search rules)

@@ -10,5 +10,5 @@ returns : tie.Need-returns
 unfolding judged meant answered same_numbers answer every
 returns c = rw (c.bits_of.ensures, c.before.f16-to-f32.ensures)
 
-pub widens-spec : {M : Type 1} → statement M
-widens-spec = tie.close (tie.spec (λ c κs. search rules) (λ c κs. search rules) returns)
+pub widens_spec : {M : Type 1} → statement M
+widens_spec = tie.close (tie.spec (λ c κs. search rules) (λ c κs. search rules) returns)

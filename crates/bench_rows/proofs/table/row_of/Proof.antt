@@ -67,8 +67,8 @@ returns-12 c =
     let e : n ≡ 12 = le_antisymm c.before.requires.1 past11 in
     rw e
 
-pub row-of-spec : {M : Type 1} → statement M
-row-of-spec =
+pub row_of_spec : {M : Type 1} → statement M
+row_of_spec =
     tie.close
     (tie.spec
     returns

@@ -12,5 +12,5 @@ returns-2 : tie.Need-returns-2
 unfolding number_of
 returns-2 c = search rules
 
-pub number-of-spec : {M : Type 1} → statement M
-number-of-spec = tie.close (tie.spec (λ c. search rules) (λ c. search rules) returns returns-2)
+pub number_of_spec : {M : Type 1} → statement M
+number_of_spec = tie.close (tie.spec (λ c. search rules) (λ c. search rules) returns returns-2)

@@ -4,21 +4,21 @@ use Prim.Native.Nat.{◌-◌, ◌%◌, ◌<◌}
 use lib.ListN.{length-set}
 use native.Mathlib.Omega.{arith}
 use borrow.Author.Rules.{rules}
-use Rattle.layouts.proofs.Two.{own-halves, Pairs, pairs-none, pairs-more, pairs-all}
-use Rattle.converters.specs.Orders.{movedByte}
+use Rattle.layouts.proofs.Two.{own_halves, Pairs, pairs_none, pairs_more, pairs_all}
+use Rattle.converters.specs.Orders.{moved_byte}
 use Rattle.converters.specs.declared.direction.Direction.TheVariants.{FromGgml}
-use Rattle.converters.proofs.Moved.{together-first, together-second}
+use Rattle.converters.proofs.Moved.{together_first, together_second}
 use Rattle.converters.proofs.block.move_together.Statement.{statement}
 use Rattle.converters.proofs.block.move_together.Tie as tie
 
 abbrev invariant-loop : tie.invariant-loop
-invariant-loop block out₀ k₀ out k = Pairs 8 (λ i. i % 8) (movedByte FromGgml block) 0 out k
+invariant-loop block out₀ k₀ out k = Pairs 8 (λ i. i % 8) (moved_byte FromGgml block) 0 out k
 
 abbrev decreases-loop : tie.decreases-loop
 decreases-loop block out₀ k₀ out k = 8 - k
 
 loop-holds : tie.Need-loop-init invariant-loop decreases-loop
-loop-holds c = pairs-none 8 (λ i. i % 8) (movedByte FromGgml c.before.before.args.block.now) 0 c.before.before.args.out.now c.before.before.requires.1
+loop-holds c = pairs_none 8 (λ i. i % 8) (moved_byte FromGgml c.before.before.args.block.now) 0 c.before.before.args.out.now c.before.before.requires.1
 
 slice-write-out-2 : tie.Need-slice-write-out-2 invariant-loop decreases-loop
 slice-write-out-2 c = rw length-set (omega arith)
@@ -29,8 +29,8 @@ loop-again c =
     let bs = m.before.before.before.args.block.now in
     let k = m.loop.k in
     let h : k < 8 = c.before.before.before.before.loop-test.true in
-    pairs-more 8 (λ i. i % 8) (movedByte FromGgml bs) 0 m.loop.out k _ _ h (c.before.low-nibbles.ensures ∙ sym (together-first bs k h)) (c.high-nibbles.ensures ∙ sym (together-second bs k h))
-    (own-halves 8 k) m.loop.invariant
+    pairs_more 8 (λ i. i % 8) (moved_byte FromGgml bs) 0 m.loop.out k _ _ h (c.before.low-nibbles.ensures ∙ sym (together_first bs k h)) (c.high-nibbles.ensures ∙ sym (together_second bs k h))
+    (own_halves 8 k) m.loop.invariant
 
 same_length : tie.Need-same-length invariant-loop decreases-loop
 same_length c = c.before.loop.invariant.0.0 ∙ sym c.before.before.before.before.requires.1
@@ -38,10 +38,10 @@ same_length c = c.before.loop.invariant.0.0 ∙ sym c.before.before.before.befor
 returns : tie.Need-returns invariant-loop decreases-loop
 returns c =
     let l = c.before.loop in
-    pairs-all 8 (λ i. i % 8) (movedByte FromGgml c.before.before.before.before.args.block.now) 0 l.out l.k c.loop-test.false (λ i h. omega arith) l.invariant
+    pairs_all 8 (λ i. i % 8) (moved_byte FromGgml c.before.before.before.before.args.block.now) 0 l.out l.k c.loop-test.false (λ i h. omega arith) l.invariant
 
-pub move-together-spec : {M : Type 1} → statement M
-move-together-spec =
+pub move_together_spec : {M : Type 1} → statement M
+move_together_spec =
     tie.close
     (tie.spec
     invariant-loop

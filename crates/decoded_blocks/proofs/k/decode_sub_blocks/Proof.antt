@@ -10,7 +10,7 @@ use borrow.Author.Rules.{rules}
 use Rattle.layouts.specs.K.{value_of}
 use Rattle.layouts.specs.declared.format.FormatK.TheVariants.{Q4K}
 use Rattle.memory.proofs.Parts.{InParts, parts_none, parts_more}
-use Rattle.decoded_blocks.proofs.Runs.{run-lengths, runs_done, sub-block-run}
+use Rattle.decoded_blocks.proofs.Runs.{run_lengths, runs_done, sub_block_run}
 use Rattle.decoded_blocks.proofs.k.decode_sub_blocks.Statement.{statement}
 use Rattle.decoded_blocks.proofs.k.decode_sub_blocks.Tie as tie
 
@@ -30,7 +30,7 @@ scale-run-less-requires : tie.Need-scale-run-less-requires invariant-loop decrea
 scale-run-less-requires c κs =
     let l = c.before.before.before.loop in
     let t = c.before.before.before.before.before.before.before.before in
-    run-lengths t.args.q.now l.out 16 l.e t.requires.1 (l.invariant.2 ∙ t.requires.2) (omega arith)
+    run_lengths t.args.q.now l.out 16 l.e t.requires.1 (l.invariant.2 ∙ t.requires.2) (omega arith)
 
 loop-again : tie.Need-loop-preserved invariant-loop decreases-loop
 loop-again c =
@@ -42,7 +42,7 @@ loop-again c =
     let q = t.args.q.now in
     let e = l.e in
     let s = f.scales-and-minimums in
-    parts_more (values bs q) t.args.out.now (λ r. 16 * r) 16 _ l.out _ e 16 h (omega arith) (omega (arith, t.requires.2)) c.before.before.scale-run-less.ensures (λ i g. sub-block-run bs e i (16 * e + 16 - 16 * e) (omega arith) h g s.result q s.ensures) l.invariant
+    parts_more (values bs q) t.args.out.now (λ r. 16 * r) 16 _ l.out _ e 16 h (omega arith) (omega (arith, t.requires.2)) c.before.before.scale-run-less.ensures (λ i g. sub_block_run bs e i (16 * e + 16 - 16 * e) (omega arith) h g s.result q s.ensures) l.invariant
 
 same_length : tie.Need-same-length invariant-loop decreases-loop
 same_length c = c.before.loop.invariant.2
@@ -53,8 +53,8 @@ returns c =
     let t = c.before.before.before.before.before.before in
     runs_done (values t.args.block.now t.args.q.now) t.args.out.now l.out 16 l.e t.requires.2 (omega arith) l.invariant
 
-pub decode-sub-blocks-spec : {M : Type 1} → statement M
-decode-sub-blocks-spec =
+pub decode_sub_blocks_spec : {M : Type 1} → statement M
+decode_sub_blocks_spec =
     tie.close
     (tie.spec
     invariant-loop

@@ -5,7 +5,7 @@ use mathlib.Core.List.{List}
 use lib.IntN.{pos}
 use lib.ListN.{get_or}
 use lib.Ieee.{Float, binary32, mul, sub, of_int}
-use Rattle.memory.proofs.Filled.{Filling, filling-start, filling-more, filling-done}
+use Rattle.memory.proofs.Filled.{Filling, filling_start, filling_more, filling_done}
 use native.Mathlib.Omega.{arith}
 use borrow.Author.Rules.{rules}
 use Rattle.decoded_blocks.proofs.k.scale_run_less.Statement.{statement}
@@ -21,13 +21,13 @@ abbrev decreases-loop : tie.decreases-loop
 decreases-loop q s m out₀ l₀ out l = 16 - l
 
 loop-holds : tie.Need-loop-init invariant-loop decreases-loop
-loop-holds c = filling-start (at c.args.q.now c.args.s c.args.m) c.args.out.now 16 c.requires.1
+loop-holds c = filling_start (at c.args.q.now c.args.s c.args.m) c.args.out.now 16 c.requires.1
 
 loop-again : tie.Need-loop-preserved invariant-loop decreases-loop
 loop-again c =
     let d = c.before.before.before in
     let t = d.before in
-    filling-more (at t.args.q.now t.args.s t.args.m) t.args.out.now 16 d.loop.out d.loop.l _ t.requires.1 d.loop.invariant c.before.before.loop-test.true refl
+    filling_more (at t.args.q.now t.args.s t.args.m) t.args.out.now 16 d.loop.out d.loop.l _ t.requires.1 d.loop.invariant c.before.before.loop-test.true refl
 
 same_length : tie.Need-same-length invariant-loop decreases-loop
 same_length c = c.before.loop.invariant.2 ∙ sym c.before.before.requires.1
@@ -36,10 +36,10 @@ returns : tie.Need-returns invariant-loop decreases-loop
 returns c =
     let d = c.before in
     let t = d.before in
-    filling-done (at t.args.q.now t.args.s t.args.m) t.args.out.now 16 d.loop.out d.loop.l t.requires.1 d.loop.invariant c.loop-test.false
+    filling_done (at t.args.q.now t.args.s t.args.m) t.args.out.now 16 d.loop.out d.loop.l t.requires.1 d.loop.invariant c.loop-test.false
 
-pub scale-run-less-spec : {M : Type 1} → statement M
-scale-run-less-spec =
+pub scale_run_less_spec : {M : Type 1} → statement M
+scale_run_less_spec =
     tie.close
     (tie.spec
     invariant-loop

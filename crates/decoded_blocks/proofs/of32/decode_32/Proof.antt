@@ -8,23 +8,23 @@ use lib.ListN.{length}
 use native.Mathlib.Omega.{arith}
 use borrow.Author.Rules.{rules}
 use Rattle.memory.specs.Lists.{table}
-use Rattle.memory.proofs.Filled.{length-table}
+use Rattle.memory.proofs.Filled.{length_table}
 use Rattle.halves.specs.Binary16.{widened}
 use Rattle.numbers.specs.Fields.{le16}
 use Rattle.layouts.specs.Formats.{bytes32}
 use Rattle.layouts.specs.Of32.{quant32}
 use Rattle.layouts.specs.declared.format.Format32.{Format32}
 use Rattle.layouts.specs.declared.format.Format32.TheVariants.{Iq4Nl}
-use Rattle.layouts.proofs.Sizes.{least-32}
-use Rattle.decoded_blocks.proofs.Scaled.{of-quants, of-scale}
+use Rattle.layouts.proofs.Sizes.{least_32}
+use Rattle.decoded_blocks.proofs.Scaled.{of_quants, of_scale}
 use Rattle.decoded_blocks.proofs.of32.decode_32.Statement.{statement}
 use Rattle.decoded_blocks.proofs.of32.decode_32.Tie as tie
 
 shared-slice-read-le-u16 : tie.Need-shared-slice-read-le-u16
-shared-slice-read-le-u16 c = omega (arith, least-32 c.before.before.before.args.format)
+shared-slice-read-le-u16 c = omega (arith, least_32 c.before.before.before.args.format)
 
 shared-slice-read-le-u16-2 : tie.Need-shared-slice-read-le-u16-2
-shared-slice-read-le-u16-2 c = omega (arith, least-32 c.before.before.before.before.args.format)
+shared-slice-read-le-u16-2 c = omega (arith, least_32 c.before.before.before.before.args.format)
 
 -- the scale that was read is the block's
 scale : (m : tie.After-f16-to-f32) → m.f16-to-f32.result ≡ widened (le16 m.before.before.before.before.before.before.args.block.now 0)
@@ -49,23 +49,23 @@ own c =
 
 -- .. and as many as a block has
 many : (c : tie.At-match-branch) → length c.match.q ≡ 32
-many c = ap length (own c) ∙ length-table _ 32
+many c = ap length (own c) ∙ length_table _ 32
 
 returns : tie.Need-returns
 returns c =
     let k = c.before.before.before.before in
-    rw k.enum-told5.given.1 (c.before.before.decode-picked.ensures ∙ of-scale Iq4Nl _ _ (scale k.before.before))
+    rw k.enum-told5.given.1 (c.before.before.decode-picked.ensures ∙ of_scale Iq4Nl _ _ (scale k.before.before))
 
 returns-2 : tie.Need-returns-2
 returns-2 c =
     let m = c.before.before.before.before.before in
     let a = m.before.before.before.before.before.before.before.args in
     c.before.before.scale-quants.ensures
-    ∙ of-quants a.format a.block.now _ _ (own m)
-    ∙ of-scale a.format a.block.now _ (scale m.before)
+    ∙ of_quants a.format a.block.now _ _ (own m)
+    ∙ of_scale a.format a.block.now _ (scale m.before)
 
-pub decode-32-spec : {M : Type 1} → statement M
-decode-32-spec =
+pub decode_32_spec : {M : Type 1} → statement M
+decode_32_spec =
     tie.close
     (tie.spec
     shared-slice-read-le-u16

@@ -7,7 +7,7 @@ use native.Mathlib.Omega.{arith}
 use borrow.Author.Rules.{rules}
 use Rattle.memory.proofs.Parts.{InParts, parts_none, parts_more}
 use Rattle.decoded_blocks.proofs.Scaled.{at}
-use Rattle.decoded_blocks.proofs.Runs.{run-lengths, runs_done}
+use Rattle.decoded_blocks.proofs.Runs.{run_lengths, runs_done}
 use Rattle.decoded_blocks.proofs.of32.scale_quants.Statement.{statement}
 use Rattle.decoded_blocks.proofs.of32.scale_quants.Tie as tie
 
@@ -26,7 +26,7 @@ scale-run-requires : tie.Need-scale-run-requires invariant-loop decreases-loop
 scale-run-requires c κs =
     let d = c.before.before.before in
     let t = d.before.before in
-    run-lengths t.args.q.now d.loop.out 2 d.loop.e (omega arith) (d.loop.invariant.2 ∙ t.requires.1) (omega arith)
+    run_lengths t.args.q.now d.loop.out 2 d.loop.e (omega arith) (d.loop.invariant.2 ∙ t.requires.1) (omega arith)
 
 loop-again : tie.Need-loop-preserved invariant-loop decreases-loop
 loop-again c =
@@ -44,8 +44,8 @@ returns c =
     let a = t.args in
     runs_done (at a.s a.q.now) a.out.now l.out 2 l.e t.requires.1 (omega arith) l.invariant
 
-pub scale-quants-spec : {M : Type 1} → statement M
-scale-quants-spec =
+pub scale_quants_spec : {M : Type 1} → statement M
+scale_quants_spec =
     tie.close
     (tie.spec
     invariant-loop

@@ -7,15 +7,15 @@ use borrow.Author.Rules.{rules}
 use lib.ListN.{length, take, drop}
 use lib.Ieee.{Float}
 use Rattle.memory.specs.Lists.{table, filled}
-use Rattle.memory.proofs.Filled.{filled_none, filled-all, part_length, part-turn}
-use Rattle.memory.proofs.Parts.{within-whole}
-use Rattle.layouts.specs.Weights.{valueIn, weightAt}
+use Rattle.memory.proofs.Filled.{filled_none, filled_all, part_length, part_turn}
+use Rattle.memory.proofs.Parts.{within_whole}
+use Rattle.layouts.specs.Weights.{value_in, weight_at}
 use Rattle.layouts.proofs.Sizes.{sizes, placed}
 use Rattle.decoded_rows.proofs.row.decode_parts.Statement.{statement}
 use Rattle.decoded_rows.proofs.row.decode_parts.Tie as tie
 
 abbrev invariant-loop : tie.invariant-loop
-invariant-loop format w from out₀ size values n at₀ out at = (out ≡ filled (λ i. weightAt format w (from + i)) out₀ at) × (at ≤ n) × (length out ≡ length out₀)
+invariant-loop format w from out₀ size values n at₀ out at = (out ≡ filled (λ i. weight_at format w (from + i)) out₀ at) × (at ≤ n) × (length out ≡ length out₀)
 
 abbrev decreases-loop : tie.decreases-loop
 decreases-loop format w from out₀ size values n at₀ out at = n - at
@@ -46,7 +46,7 @@ here c =
     let P : 0 < v = omega (arith, sizes t.args.format, values.ensures) in
     let all : t.args.from + length t.args.out.now ≤ room / z * v = rw (size.ensures, values.ensures) t.requires.0 in
     let h : place < room / z * v = omega (arith, all, c.loop-test.true) in
-    record { positive = P; inner = mod-lt place P; adds = div-add-mod' place v; stop = within-whole (place / v) z room ((div-lt_iff_lt-mul P).1 h) }
+    record { positive = P; inner = mod-lt place P; adds = div-add-mod' place v; stop = within_whole (place / v) z room ((div-lt_iff_lt-mul P).1 h) }
 
 div-b : tie.Need-nonzero-div-b invariant-loop decreases-loop
 div-b c = omega (arith, (here c).positive)
@@ -141,14 +141,14 @@ loop-again c =
     let b = place / v in
     let inside = place % v in
     let bytes = take (b * z + z - b * z) (drop (b * z) w) in
-    let g : ℕ → Float = λ i. valueIn f bytes (inside + i) in
-    let whole : ℕ → Float = λ i. weightAt f w (t.args.from + i) in
+    let g : ℕ → Float = λ i. value_in f bytes (inside + i) in
+    let whole : ℕ → Float = λ i. weight_at f w (t.args.from + i) in
     let k = here d in
     let n = count e in
     let same : (i : ℕ) → i < r → g i ≡ whole (l.at + i) = λ i h.
-    placed f w b (inside + i) z v size.ensures values.ensures (omega (arith, n.1, k.inner, h)) ∙ ap (weightAt f w) (omega (arith, k.adds)) in
+    placed f w b (inside + i) z v size.ensures values.ensures (omega (arith, n.1, k.inner, h)) ∙ ap (weight_at f w) (omega (arith, k.adds)) in
     let p =
-    part-turn whole g t.args.out.now l.out c.before.before.decode-within.new.1.1.1.0 l.at r (l.at + r) (l.at + r) refl refl n.2 l.invariant.0
+    part_turn whole g t.args.out.now l.out c.before.before.decode-within.new.1.1.1.0 l.at r (l.at + r) (l.at + r) refl refl n.2 l.invariant.0
     (c.before.before.decode-within.ensures ∙ ap (table g) (lent e)) same in
     (p.0, n.2, p.1)
 
@@ -159,12 +159,12 @@ returns : tie.Need-returns invariant-loop decreases-loop
 returns c =
     let l = c.before.loop in
     let t = c.before.before.before.before.before.before in
-    let whole : ℕ → Float = λ i. weightAt t.args.format t.args.w.now (t.args.from + i) in
+    let whole : ℕ → Float = λ i. weight_at t.args.format t.args.w.now (t.args.from + i) in
     let e : l.at ≡ length t.args.out.now = le_antisymm l.invariant.1 c.loop-test.false in
-    l.invariant.0 ∙ ap (filled whole t.args.out.now) e ∙ filled-all whole t.args.out.now (length t.args.out.now) (le_of_eq refl)
+    l.invariant.0 ∙ ap (filled whole t.args.out.now) e ∙ filled_all whole t.args.out.now (length t.args.out.now) (le_of_eq refl)
 
-pub decode-parts-spec : {M : Type 1} → statement M
-decode-parts-spec =
+pub decode_parts_spec : {M : Type 1} → statement M
+decode_parts_spec =
     tie.close
     (tie.spec
     invariant-loop

@@ -6,10 +6,10 @@ use native.Mathlib.Omega.{arith}
 use borrow.Author.Rules.{rules}
 use lib.ListN.{length}
 use Rattle.memory.specs.Lists.{filled}
-use Rattle.memory.proofs.Filled.{filled-all, table-ext}
-use Rattle.layouts.specs.Weights.{weightAt}
+use Rattle.memory.proofs.Filled.{filled_all, table_ext}
+use Rattle.layouts.specs.Weights.{weight_at}
 use Rattle.layouts.proofs.Sizes.{sizes}
-use Rattle.decoded_rows.proofs.WholeRows.{row_fits, row-values, row-weights}
+use Rattle.decoded_rows.proofs.WholeRows.{row_fits, row_values, row_weights}
 use Rattle.decoded_rows.proofs.row.decode_row.Statement.{statement}
 use Rattle.decoded_rows.proofs.row.decode_row.Tie as tie
 
@@ -74,7 +74,7 @@ decode-blocks-requires : tie.Need-decode-blocks-requires
 decode-blocks-requires c κs =
     let e = c.before.before in
     let t = e.before.before.before.before.before in
-    le_of_eq (row-values t.args.format t.args.w.now t.args.from (length t.args.out.now) _ _ e.before.before.block-bytes.ensures e.before.block-values.ensures e.if1.false t.requires.0)
+    le_of_eq (row_values t.args.format t.args.w.now t.args.from (length t.args.out.now) _ _ e.before.before.block-bytes.ensures e.before.block-values.ensures e.if1.false t.requires.0)
 
 returns-2 : tie.Need-returns-2
 returns-2 c =
@@ -86,12 +86,12 @@ returns-2 c =
     let S = e.before.before.block-bytes.ensures in
     let W = e.before.block-values.ensures in
     c.before.before.decode-blocks.ensures
-    ∙ ap (filled (weightAt f _) out) (row-values f w t.args.from (length out) _ _ S W e.if1.false t.requires.0)
-    ∙ filled-all (weightAt f _) out (length out) (le_of_eq refl)
-    ∙ table-ext _ (λ i. weightAt f w (t.args.from + i)) (length out) (row-weights f w t.args.from (length out) _ _ S W e.if1.false t.requires.0)
+    ∙ ap (filled (weight_at f _) out) (row_values f w t.args.from (length out) _ _ S W e.if1.false t.requires.0)
+    ∙ filled_all (weight_at f _) out (length out) (le_of_eq refl)
+    ∙ table_ext _ (λ i. weight_at f w (t.args.from + i)) (length out) (row_weights f w t.args.from (length out) _ _ S W e.if1.false t.requires.0)
 
-pub decode-row-spec : {M : Type 1} → statement M
-decode-row-spec =
+pub decode_row_spec : {M : Type 1} → statement M
+decode_row_spec =
     tie.close
     (tie.spec
     (λ c κs. search rules)

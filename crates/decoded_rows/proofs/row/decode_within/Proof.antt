@@ -9,20 +9,20 @@ use lib.ListN.{length, get_or, take, replicate, get_or-append}
 use lib.Seq.{length-take-le}
 use lib.Ieee.{Float, nan}
 use Rattle.memory.specs.Lists.{table, filled}
-use Rattle.memory.proofs.Filled.{Filling, filling-start, filling-more, filling-done, filled-all, length-table, getD-table, table-ext}
+use Rattle.memory.proofs.Filled.{Filling, filling_start, filling_more, filling_done, filled_all, length_table, get_or_table, table_ext}
 use Rattle.numbers.specs.Steps.{nought}
-use Rattle.layouts.specs.Formats.{blockValues}
-use Rattle.layouts.specs.Weights.{valueIn, weightAt}
+use Rattle.layouts.specs.Formats.{block_values}
+use Rattle.layouts.specs.Weights.{value_in, weight_at}
 use Rattle.layouts.proofs.Sizes.{sizes}
-use Rattle.decoded_rows.proofs.WholeRows.{block-values, block-weight}
+use Rattle.decoded_rows.proofs.WholeRows.{block_values_lem, block_weight}
 use Rattle.decoded_rows.proofs.row.decode_within.Statement.{statement}
 use Rattle.decoded_rows.proofs.row.decode_within.Tie as tie
 
 abbrev invariant-loop : tie.invariant-loop
-invariant-loop block from out₀ values whole i₀ i-end out i = Filling (λ k. get_or whole (from + k) nan) out₀ (length out₀) out i
+invariant-loop block from out₀ values whole i₀ i_end out i = Filling (λ k. get_or whole (from + k) nan) out₀ (length out₀) out i
 
 abbrev decreases-loop : tie.decreases-loop
-decreases-loop block from out₀ values whole i₀ i-end out i = length out₀ - i
+decreases-loop block from out₀ values whole i₀ i_end out i = length out₀ - i
 
 -- a block's values fit the array, and are as many as its front
 front : (c : tie.After-block-values invariant-loop decreases-loop) → length (take c.block-values.result (replicate 256 nought)) ≡ c.block-values.result
@@ -37,13 +37,13 @@ slice-aggregate-decode-blocks c = sym (front c.before)
 decode-blocks-requires : tie.Need-decode-blocks-requires invariant-loop decreases-loop
 decode-blocks-requires c κs =
     let t = c.before.before.before.before in
-    le_of_eq (block-values t.args.format t.args.block.now t.requires.0 ∙ sym c.before.block-values.ensures ∙ sym (front c.before))
+    le_of_eq (block_values_lem t.args.format t.args.block.now t.requires.0 ∙ sym c.before.block-values.ensures ∙ sym (front c.before))
 
 loop-holds : tie.Need-loop-init invariant-loop decreases-loop
-loop-holds c = filling-start _ _ _ refl
+loop-holds c = filling_start _ _ _ refl
 
 -- the place that a turn reads is one of the block's
-inside : (c : tie.In-loop invariant-loop decreases-loop) → (let t = c.before.before.before.before.before.before.before.before in (t.args.from + c.before.loop.i < blockValues t.args.format) × (blockValues t.args.format ≤ 256))
+inside : (c : tie.In-loop invariant-loop decreases-loop) → (let t = c.before.before.before.before.before.before.before.before in (t.args.from + c.before.loop.i < block_values t.args.format) × (block_values t.args.format ≤ 256))
 inside c =
     let t = c.before.before.before.before.before.before.before.before in
     (omega (arith, t.requires.1, c.loop-test.true), (sizes t.args.format).3)
@@ -58,7 +58,7 @@ array-read-out : tie.Need-array-read-out invariant-loop decreases-loop
 array-read-out c = omega (arith, inside c)
 
 loop-again : tie.Need-loop-preserved invariant-loop decreases-loop
-loop-again c = let l = c.before.loop in filling-more _ _ _ l.out l.i _ refl l.invariant c.loop-test.true refl
+loop-again c = let l = c.before.loop in filling_more _ _ _ l.out l.i _ refl l.invariant c.loop-test.true refl
 
 same_length : tie.Need-same-length invariant-loop decreases-loop
 same_length c = c.before.loop.invariant.2
@@ -70,21 +70,21 @@ returns c =
     let d = c.before.before.before.decode-blocks in
     let values = c.before.before.before.before.before.block-values in
     let block = t.args.block.now in
-    let f = valueIn t.args.format block in
-    let v = blockValues t.args.format in
+    let f = value_in t.args.format block in
+    let v = block_values t.args.format in
     let made : d.new.1.1.0 ≡ table f v =
     d.ensures
-    ∙ ap (filled (weightAt t.args.format block) _) (block-values t.args.format block t.requires.0)
-    ∙ filled-all (weightAt t.args.format block) _ v (le_of_eq (front c.before.before.before.before.before ∙ values.ensures))
-    ∙ table-ext (weightAt t.args.format block) f v (block-weight t.args.format block t.requires.0) in
-    filling-done _ _ (length t.args.out.now) l.out l.i refl l.invariant c.loop-test.false
-    ∙ table-ext _ (λ i. f (t.args.from + i)) (length t.args.out.now) (λ i h.
+    ∙ ap (filled (weight_at t.args.format block) _) (block_values_lem t.args.format block t.requires.0)
+    ∙ filled_all (weight_at t.args.format block) _ v (le_of_eq (front c.before.before.before.before.before ∙ values.ensures))
+    ∙ table_ext (weight_at t.args.format block) f v (block_weight t.args.format block t.requires.0) in
+    filling_done _ _ (length t.args.out.now) l.out l.i refl l.invariant c.loop-test.false
+    ∙ table_ext _ (λ i. f (t.args.from + i)) (length t.args.out.now) (λ i h.
     let k : t.args.from + i < v = omega (arith, t.requires.1, h) in
-    let long : length d.new.1.1.0 ≡ v = ap length made ∙ length-table f v in
-    get_or-append d.new.1.1.0 _ nan (t.args.from + i) (rw long k) ∙ ap (λ (ys : List Float). get_or ys (t.args.from + i) nan) made ∙ getD-table f v (t.args.from + i) nan k)
+    let long : length d.new.1.1.0 ≡ v = ap length made ∙ length_table f v in
+    get_or-append d.new.1.1.0 _ nan (t.args.from + i) (rw long k) ∙ ap (λ (ys : List Float). get_or ys (t.args.from + i) nan) made ∙ get_or_table f v (t.args.from + i) nan k)
 
-pub decode-within-spec : {M : Type 1} → statement M
-decode-within-spec =
+pub decode_within_spec : {M : Type 1} → statement M
+decode_within_spec =
     tie.close
     (tie.spec
     invariant-loop

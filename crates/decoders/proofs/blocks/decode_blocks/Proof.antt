@@ -8,29 +8,29 @@ use Rattle.decoders.proofs.blocks.decode_blocks.Statement.{statement}
 use Rattle.decoders.proofs.blocks.decode_blocks.Tie as tie
 
 -- the format of either loop
-is-q8-0 : (c : tie.After-enum-told) → c.before.before.before.before.before.before.before.args.format ≡ Of32 Q80
-is-q8-0 c = c.before.before.before.format.given.1 ∙ ap Of32 c.enum_told.given.1
+is_q8_0 : (c : tie.After-enum-told) → c.before.before.before.before.before.before.before.args.format ≡ Of32 Q80
+is_q8_0 c = c.before.before.before.format.given.1 ∙ ap Of32 c.enum_told.given.1
 
-is-told : (c : tie.At-match-branch) → c.match.format ≡ c.before.before.before.args.format
-is-told c = ⊎_elim (λ w. w.4 ∙ sym w.1.given.1) (λ w. w.2) c.match.branch
+is_told : (c : tie.At-match-branch) → c.match.format ≡ c.before.before.before.args.format
+is_told c = ⊎_elim (λ w. w.4 ∙ sym w.1.given.1) (λ w. w.2) c.match.branch
 
 decode-q8-0-blocks-requires : tie.Need-decode-q8-0-blocks-requires
-decode-q8-0-blocks-requires c κs = let t = c.before.before.before.before.before.before.before.before in rw (is-q8-0 c.before) at t.requires
+decode-q8-0-blocks-requires c κs = let t = c.before.before.before.before.before.before.before.before in rw (is_q8_0 c.before) at t.requires
 
 same_length : tie.Need-same-length
 same_length c = search rules
 
 returns : tie.Need-returns
-returns c = rw (is-q8-0 c.before.before.before.before) c.before.before.decode-q8-0-blocks.ensures
+returns c = rw (is_q8_0 c.before.before.before.before) c.before.before.decode-q8-0-blocks.ensures
 
 decode-each-requires : tie.Need-decode-each-requires
-decode-each-requires c κs = rw (is-told c.before) c.before.before.before.before.requires
+decode-each-requires c κs = rw (is_told c.before) c.before.before.before.before.requires
 
 returns-2 : tie.Need-returns-2
-returns-2 c = rw (is-told c.before.before.before.before) at c.before.before.decode-each.ensures
+returns-2 c = rw (is_told c.before.before.before.before) at c.before.before.decode-each.ensures
 
-pub decode-blocks-spec : {M : Type 1} → statement M
-decode-blocks-spec =
+pub decode_blocks_spec : {M : Type 1} → statement M
+decode_blocks_spec =
     tie.close
     (tie.spec
     (λ c. search rules)

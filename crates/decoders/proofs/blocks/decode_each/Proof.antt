@@ -8,15 +8,15 @@ use Rattle.memory.specs.Lists.{table, filled}
 use Rattle.memory.proofs.Filled.{part_length}
 use native.Mathlib.Omega.{arith}
 use borrow.Author.Rules.{rules}
-use Rattle.layouts.specs.Formats.{blockBytes, blockValues}
-use Rattle.layouts.specs.Weights.{valueIn, weightAt}
-use Rattle.memory.proofs.Parts.{part-within, InParts, parts_none, parts_more, parts-done}
+use Rattle.layouts.specs.Formats.{block_bytes, block_values}
+use Rattle.layouts.specs.Weights.{value_in, weight_at}
+use Rattle.memory.proofs.Parts.{part_within, InParts, parts_none, parts_more, parts_done}
 use Rattle.layouts.proofs.Sizes.{sizes, placed}
 use Rattle.decoders.proofs.blocks.decode_each.Statement.{statement}
 use Rattle.decoders.proofs.blocks.decode_each.Tie as tie
 
 abbrev invariant-loop : tie.invariant-loop
-invariant-loop format bytes out₀ size values count b₀ out b = InParts (weightAt format bytes) out₀ (λ k. k * values) count out b
+invariant-loop format bytes out₀ size values count b₀ out b = InParts (weight_at format bytes) out₀ (λ k. k * values) count out b
 
 abbrev decreases-loop : tie.decreases-loop
 decreases-loop format bytes out₀ size values count b₀ out b = count - b
@@ -27,7 +27,7 @@ div-count c = omega (arith, sizes c.before.before.before.before.args.format, c.b
 loop-holds : tie.Need-loop-init invariant-loop decreases-loop
 loop-holds c =
     let a = c.before.before.before.before.args in
-    parts_none (weightAt a.format a.bytes.now) a.out.now (λ k. k * c.block-values.result) _ (zero-mul _)
+    parts_none (weight_at a.format a.bytes.now) a.out.now (λ k. k * c.block-values.result) _ (zero-mul _)
 
 -- block b lies within the bytes, its values lie within the output, and there are fewer blocks than bytes
 facts : (c : tie.In-loop invariant-loop decreases-loop)
@@ -39,7 +39,7 @@ facts c =
     let t = c.before.before.before.before.before.before in
     let size = c.before.before.before.block-bytes in
     let values = c.before.before.block-values in
-    part-within c.before.loop.b size.result values.result (length t.args.bytes.now) (length t.args.out.now) c.loop-test.true (rw (size.ensures, values.ensures) t.requires)
+    part_within c.before.loop.b size.result values.result (length t.args.bytes.now) (length t.args.out.now) c.loop-test.true (rw (size.ensures, values.ensures) t.requires)
 
 mul-from : tie.Need-overflow-mul-from invariant-loop decreases-loop
 mul-from c = omega (arith, facts c)
@@ -101,11 +101,11 @@ loop-again c =
     let bs = t.args.bytes.now in
     let size = d.before.before.before.block-bytes.result in
     let v = d.before.before.block-values.result in
-    let S : size ≡ blockBytes f = d.before.before.before.block-bytes.ensures in
-    let W : v ≡ blockValues f = d.before.before.block-values.ensures in
+    let S : size ≡ block_bytes f = d.before.before.before.block-bytes.ensures in
+    let W : v ≡ block_values f = d.before.before.block-values.ensures in
     let b = l.b in
-    let g = valueIn f (take (b * size + size - b * size) (drop (b * size) bs)) in
-    parts_more (weightAt f bs) t.args.out.now (λ k. k * v) (length bs / size) g l.out _ b v d.loop-test.true (rw add-one (suc-mul b v)) (facts d).1 (c.before.before.decode-block.ensures ∙ ap (table g) (sym W)) (λ i h. placed f bs b i size v S W h) l.invariant
+    let g = value_in f (take (b * size + size - b * size) (drop (b * size) bs)) in
+    parts_more (weight_at f bs) t.args.out.now (λ k. k * v) (length bs / size) g l.out _ b v d.loop-test.true (rw add-one (suc-mul b v)) (facts d).1 (c.before.before.decode-block.ensures ∙ ap (table g) (sym W)) (λ i h. placed f bs b i size v S W h) l.invariant
 
 same_length : tie.Need-same-length invariant-loop decreases-loop
 same_length c = c.before.loop.invariant.2
@@ -118,10 +118,10 @@ returns c =
     let bs = t.args.bytes.now in
     let size = c.before.before.before.block-bytes in
     let values = c.before.before.block-values in
-    parts-done (weightAt f bs) t.args.out.now (λ k. k * values.result) (length bs / size.result) l.out l.b c.loop-test.false l.invariant ∙ ap (filled (weightAt f bs) t.args.out.now) (rw (size.ensures, values.ensures))
+    parts_done (weight_at f bs) t.args.out.now (λ k. k * values.result) (length bs / size.result) l.out l.b c.loop-test.false l.invariant ∙ ap (filled (weight_at f bs) t.args.out.now) (rw (size.ensures, values.ensures))
 
-pub decode-each-spec : {M : Type 1} → statement M
-decode-each-spec =
+pub decode_each_spec : {M : Type 1} → statement M
+decode_each_spec =
     tie.close
     (tie.spec
     invariant-loop

@@ -4,7 +4,7 @@ use borrow.Author.Rules.{rules}
 use lib.IntN.{ℤ}
 use mir.Syntax.{w8, w16}
 use Rattle.dots_activation.specs.Whole.{elem}
-use Rattle.dots_activation.proofs.Loops.{wide_fits, wide_is, wide-within, sum_fits, sum-made}
+use Rattle.dots_activation.proofs.Loops.{wide_fits, wide_is, wide_within, sum_fits, sum_made}
 use Rattle.dots_activation.proofs.block.pair.Statement.{statement}
 use Rattle.dots_activation.proofs.block.pair.Tie as tie
 
@@ -27,7 +27,7 @@ add-result-2 c =
     let y = high c.before.before in
     let p = c.before.result.given in
     let q = c.result2.given in
-    sum_fits w16 (wide_is w8 w16 x p tt) (wide_is w8 w16 y q tt) (wide-within w8 w16 x p tt) (wide-within w8 w16 y q tt) tt
+    sum_fits w16 (wide_is w8 w16 x p tt) (wide_is w8 w16 y q tt) (wide_within w8 w16 x p tt) (wide_within w8 w16 y q tt) tt
 
 returns : tie.Need-returns
 returns c =
@@ -35,7 +35,7 @@ returns c =
     let y = high c.before.before in
     let p = c.before.result.given in
     let q = c.result2.given in
-    sum-made w16 (wide_is w8 w16 x p tt) (wide_is w8 w16 y q tt) (wide-within w8 w16 x p tt) (wide-within w8 w16 y q tt) tt
+    sum_made w16 (wide_is w8 w16 x p tt) (wide_is w8 w16 y q tt) (wide_within w8 w16 x p tt) (wide_within w8 w16 y q tt) tt
 
 pub pair_spec : {M : Type 1} → statement M
 pair_spec =

@@ -7,23 +7,23 @@ use lib.IntN.{ℤ, pos}
 use mir.Syntax.{w8}
 use mir.Val.{to_z, of_z}
 use Rattle.memory.specs.Lists.{every}
-use Rattle.memory.proofs.Every.{every-all, every-keeps, every-not}
+use Rattle.memory.proofs.Every.{every_all, every_keeps, every_not}
 use Rattle.numbers.proofs.Signed.{read_is}
-use Rattle.dots_activation.specs.Whole.{elem, eqZ}
-use Rattle.dots_activation.specs.Blocks.{pastIsZero}
-use Rattle.dots_activation.proofs.Tests.{eqZ-not}
-use Rattle.dots_activation.proofs.Past.{below-passes, past_is}
+use Rattle.dots_activation.specs.Whole.{elem, eq_z}
+use Rattle.dots_activation.specs.Blocks.{past_is_zero}
+use Rattle.dots_activation.proofs.Tests.{eq_z_not}
+use Rattle.dots_activation.proofs.Past.{below_passes, past_is}
 use Rattle.dots_activation.proofs.block.zeros_past.Statement.{statement}
 use Rattle.dots_activation.proofs.block.zeros_past.Tie as tie
 
 abbrev invariant-loop : tie.invariant-loop
-invariant-loop qs n zeros₀ i₀ zeros i = (n ≤ i) × (i ≤ 256) × (zeros ≡ every (pastIsZero qs n) i)
+invariant-loop qs n zeros₀ i₀ zeros i = (n ≤ i) × (i ≤ 256) × (zeros ≡ every (past_is_zero qs n) i)
 
 abbrev decreases-loop : tie.decreases-loop
 decreases-loop qs n zeros₀ i₀ zeros i = 256 - i
 
 loop-holds : tie.Need-loop-init invariant-loop decreases-loop
-loop-holds c = (omega arith, omega arith, sym (every-all _ _ (below-passes c.args.qs.now c.args.n)))
+loop-holds c = (omega arith, omega arith, sym (every_all _ _ (below_passes c.args.qs.now c.args.n)))
 
 loop-again : tie.Need-loop-preserved invariant-loop decreases-loop
 loop-again c =
@@ -31,14 +31,14 @@ loop-again c =
     let l = k.loop in
     let qs = k.before.args.qs.now in
     let n = k.before.args.n in
-    let p = pastIsZero qs n in
+    let p = past_is_zero qs n in
     let q = elem qs l.i in
     let past = past_is qs n l.i l.invariant.0 in (
       omega arith,
       omega arith,
       ⊎_elim
-          (λ w. w.1 ∙ sym (every-not p (l.i + 1) l.i (omega arith) (past ∙ eqZ-not q (pos 0) (λ e. w.0.taken (ap (of_z w8) e)))))
-          (λ w. w.1 ∙ l.invariant.2 ∙ sym (every-keeps p l.i (past ∙ ap (λ (z : ℤ). eqZ z (pos 0)) (sym (read_is w8 q c.before.if12.given) ∙ ap (to_z w8) w.0.left))))
+          (λ w. w.1 ∙ sym (every_not p (l.i + 1) l.i (omega arith) (past ∙ eq_z_not q (pos 0) (λ e. w.0.taken (ap (of_z w8) e)))))
+          (λ w. w.1 ∙ l.invariant.2 ∙ sym (every_keeps p l.i (past ∙ ap (λ (z : ℤ). eq_z z (pos 0)) (sym (read_is w8 q c.before.if12.given) ∙ ap (to_z w8) w.0.left))))
           c.if1.branch,
     )
 
@@ -47,9 +47,9 @@ returns c =
     let l = c.before.loop in
     let a = c.before.before.args in
     let e : l.i ≡ 256 = omega arith in
-    l.invariant.2 ∙ ap (every (pastIsZero a.qs.now a.n)) e
+    l.invariant.2 ∙ ap (every (past_is_zero a.qs.now a.n)) e
 
-pub zeros-past-spec : {M : Type 1} → statement M
-zeros-past-spec =
+pub zeros_past_spec : {M : Type 1} → statement M
+zeros_past_spec =
     tie.close
     (tie.spec invariant-loop decreases-loop loop-holds (λ c. omega arith) (λ c. omega arith) (λ c. omega arith) loop-again returns)

@@ -6,8 +6,8 @@ use borrow.Author.Tests.{lt-ltb, le-ltb, eq-eqb, ne_eqb}
 use Rattle.refusals.specs.Said.{value}
 use Rattle.refusals.specs.Refusals.{given}
 use Rattle.layouts.specs.declared.format.Format.TheVariants.{OfK}
-use Rattle.layouts.proofs.Sizes.{sizes, values-fit}
-use Rattle.dots_fused.specs.Says.{fusedSays}
+use Rattle.layouts.proofs.Sizes.{sizes, values_fit}
+use Rattle.dots_fused.specs.Says.{fused_says}
 use native.Mathlib.Omega.{arith}
 use borrow.Author.Rules.{rules}
 use Rattle.dots_fused.proofs.dot.fused_dot.Statement.{statement}
@@ -23,14 +23,14 @@ mul-if4 : tie.Need-overflow-mul-if4
 mul-if4 c =
     let b = c.before.before.before in
     let t = b.before.before.before in
-    record { fits = values-fit t.args.format b.block-bytes.result (length t.args.w.now) b.block-bytes.ensures (omega arith) }
+    record { fits = values_fit t.args.format b.block-bytes.result (length t.args.w.now) b.block-bytes.ensures (omega arith) }
 
 returns : tie.Need-returns
-unfolding fusedSays given
+unfolding fused_says given
 returns c = simp (lt-ltb _ _ c.if1.true)
 
 returns-2 : tie.Need-returns-2
-unfolding fusedSays given
+unfolding fused_says given
 returns-2 c =
     simp (
       sym c.before.before.block-bytes.ensures,
@@ -39,7 +39,7 @@ returns-2 c =
     )
 
 returns-3 : tie.Need-returns-3
-unfolding fusedSays given
+unfolding fused_says given
 returns-3 c =
     simp (
       sym c.before.before.before.block-bytes.ensures,
@@ -49,7 +49,7 @@ returns-3 c =
     )
 
 returns-4 : tie.Need-returns-4
-unfolding fusedSays given
+unfolding fused_says given
 returns-4 c =
     let i = c.before.before in
     let b = i.before.before.before.before in
@@ -65,7 +65,7 @@ returns-4 c =
     )
 
 returns-5 : tie.Need-returns-5
-unfolding fusedSays given
+unfolding fused_says given
 returns-5 c =
     simp (
       sym c.before.before.before.before.before.block-bytes.ensures,
@@ -80,7 +80,7 @@ row-dot-requires : tie.Need-row-dot-requires
 row-dot-requires c κs = (omega arith, omega arith, rw c.before.before.before.before.before.block-bytes.ensures at c.before.if4.false)
 
 returns-6 : tie.Need-returns-6
-unfolding fusedSays given
+unfolding fused_says given
 returns-6 c =
     simp (
       sym c.before.before.before.before.before.before.block-bytes.ensures,
@@ -92,8 +92,8 @@ returns-6 c =
     )
     (ap value c.row-dot.ensures)
 
-pub fused-dot-spec : {M : Type 1} → statement M
-fused-dot-spec =
+pub fused_dot_spec : {M : Type 1} → statement M
+fused_dot_spec =
     tie.close
     (tie.spec
     (λ c κs. search rules)

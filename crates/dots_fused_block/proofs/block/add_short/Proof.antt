@@ -4,9 +4,9 @@ use Prim.Native.Nat.{◌<◌}
 use native.Mathlib.Omega.{arith}
 use lib.ListN.{length, get_or}
 use lib.Ieee.{nan, binary32, mul}
-use Rattle.memory.proofs.Filled.{getD-table}
-use Rattle.layouts.specs.K.{valueK}
-use Rattle.sums_lanes.proofs.LaneLaws.{lanes-cong}
+use Rattle.memory.proofs.Filled.{get_or_table}
+use Rattle.layouts.specs.K.{value_k}
+use Rattle.sums_lanes.proofs.LaneLaws.{lanes_cong}
 use Rattle.dots_fused_block.proofs.Grown.{one_block}
 use borrow.Author.Rules.{rules}
 use Rattle.dots_fused_block.proofs.block.add_short.Statement.{statement}
@@ -18,13 +18,13 @@ returns c =
     let t = c.before.before.before.before.before.before.before in
     let a = t.args in
     c.add-products.ensures
-    ∙ lanes-cong a.l _ _ (length a.x.now)
+    ∙ lanes_cong a.l _ _ (length a.x.now)
     (λ i h.
     let u : i < 256 = omega (arith, t.requires.0) in
-    ap (mul binary32 (get_or a.x.now i nan)) (rw (d.ensures, getD-table (valueK a.format a.block.now) 256 i nan u) (sym (one_block a.format a.block.now i t.requires.1 u))))
+    ap (mul binary32 (get_or a.x.now i nan)) (rw (d.ensures, get_or_table (value_k a.format a.block.now) 256 i nan u) (sym (one_block a.format a.block.now i t.requires.1 u))))
 
-pub add-short-spec : {M : Type 1} → statement M
-add-short-spec =
+pub add_short_spec : {M : Type 1} → statement M
+add_short_spec =
     tie.close
     (tie.spec
     (λ c. search rules)

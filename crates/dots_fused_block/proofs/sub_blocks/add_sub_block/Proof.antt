@@ -2,21 +2,21 @@
 use mathlib.Core.Path.{◌≡◌, sym, ◌∙◌}
 use Prim.Native.Nat.{◌+◌, ◌-◌, ◌*◌}
 use lib.ListN.{length}
-use Rattle.sums_lanes.proofs.LaneLaws.{lanes-none}
-use Rattle.dots_fused_block.specs.Inner.{subBlockTerms}
-use Rattle.dots_fused_block.proofs.Grown.{Grown, grown-more, grown-done, sub-block-part}
+use Rattle.sums_lanes.proofs.LaneLaws.{lanes_none}
+use Rattle.dots_fused_block.specs.Inner.{sub_block_terms}
+use Rattle.dots_fused_block.proofs.Grown.{Grown, grown_more, grown_done, sub_block_part}
 use native.Mathlib.Omega.{arith}
 use Rattle.dots_fused_block.proofs.sub_blocks.add_sub_block.Statement.{statement}
 use Rattle.dots_fused_block.proofs.sub_blocks.add_sub_block.Tie as tie
 
 abbrev invariant-loop : tie.invariant-loop
-invariant-loop l₀ x q d m e₀ e-end l e = (length l ≡ 8) × Grown l₀ (subBlockTerms x q d m) 8 4 l e
+invariant-loop l₀ x q d m e₀ e_end l e = (length l ≡ 8) × Grown l₀ (sub_block_terms x q d m) 8 4 l e
 
 abbrev decreases-loop : tie.decreases-loop
-decreases-loop l₀ x q d m e₀ e-end l e = 4 - e
+decreases-loop l₀ x q d m e₀ e_end l e = 4 - e
 
 loop-holds : tie.Need-loop-init invariant-loop decreases-loop
-loop-holds c = (c.before.before.before.requires.0, (omega arith, lanes-none _ _))
+loop-holds c = (c.before.before.before.requires.0, (omega arith, lanes_none _ _))
 
 loop-again : tie.Need-loop-preserved invariant-loop decreases-loop
 loop-again c =
@@ -24,8 +24,8 @@ loop-again c =
     let a = b.before.before.before.before.args in
     let e = b.loop.e in (
       omega arith,
-      grown-more a.l.now b.loop.l _ (subBlockTerms a.x.now a.q.now a.d a.m) _ 8 4 e (omega arith) (omega arith) (omega arith)
-          (λ i h. sub-block-part a.x.now a.q.now a.d a.m (8 * e) (8 * e + 8 - 8 * e) i (omega arith)) c.before.before.eight-terms.ensures b.loop.invariant.1,
+      grown_more a.l.now b.loop.l _ (sub_block_terms a.x.now a.q.now a.d a.m) _ 8 4 e (omega arith) (omega arith) (omega arith)
+          (λ i h. sub_block_part a.x.now a.q.now a.d a.m (8 * e) (8 * e + 8 - 8 * e) i (omega arith)) c.before.before.eight-terms.ensures b.loop.invariant.1,
     )
 
 same_length : tie.Need-same-length invariant-loop decreases-loop
@@ -35,10 +35,10 @@ returns : tie.Need-returns invariant-loop decreases-loop
 returns c =
     let b = c.before in
     let a = b.before.before.before.before.args in
-    grown-done a.l.now b.loop.l (subBlockTerms a.x.now a.q.now a.d a.m) 8 4 b.loop.e (omega arith) b.loop.invariant.1
+    grown_done a.l.now b.loop.l (sub_block_terms a.x.now a.q.now a.d a.m) 8 4 b.loop.e (omega arith) b.loop.invariant.1
 
-pub add-sub-block-spec : {M : Type 1} → statement M
-add-sub-block-spec =
+pub add_sub_block_spec : {M : Type 1} → statement M
+add_sub_block_spec =
     tie.close
     (tie.spec
     invariant-loop

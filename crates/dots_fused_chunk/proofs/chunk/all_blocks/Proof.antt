@@ -4,7 +4,7 @@ use Prim.Native.Nat.{◌+◌, ◌-◌, ◌*◌, ◌/◌, ◌≤◌}
 use lib.ListN.{length}
 use Rattle.sums_lanes.specs.Lanes.{lanes}
 use Rattle.dots_fused_block.specs.Terms.{terms}
-use Rattle.dots_fused_chunk.proofs.Rows.{block_room, block-terms}
+use Rattle.dots_fused_chunk.proofs.Rows.{block_room, block_terms}
 use Rattle.dots_fused_block.proofs.Grown.{run_more}
 use native.Mathlib.Omega.{arith}
 use borrow.Author.Rules.{rules}
@@ -44,11 +44,11 @@ returns-2 c =
     let n = length a.x.now in
     let b = n / 256 in
     run_more _ l.result _ (terms a.format a.x.now a.w.now) _ (256 * b) _ n (omega arith) (omega arith)
-    (λ i h. block-terms a.format a.x.now a.w.now b (256 * b) (n - 256 * b) size.result (b * size.result + size.result - b * size.result) i size.ensures (omega arith) (omega arith) (omega arith) (omega arith))
+    (λ i h. block_terms a.format a.x.now a.w.now b (256 * b) (n - 256 * b) size.result (b * size.result + size.result - b * size.result) i size.ensures (omega arith) (omega arith) (omega arith) (omega arith))
     c.add-short.ensures l.ensures
 
-pub all-blocks-spec : {M : Type 1} → statement M
-all-blocks-spec =
+pub all_blocks_spec : {M : Type 1} → statement M
+all_blocks_spec =
     tie.close
     (tie.spec
     (λ c κs. search rules)

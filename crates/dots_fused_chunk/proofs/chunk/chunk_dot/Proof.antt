@@ -7,10 +7,10 @@ use Rattle.memory.proofs.Filled.{part_length}
 use Rattle.layouts.specs.Weights.{values_of}
 use Rattle.layouts.specs.declared.format.Format.TheVariants.{OfK}
 use Rattle.sums_tree.specs.Tree.{tree}
-use Rattle.sums_lanes.specs.Lanes.{chunkSum}
+use Rattle.sums_lanes.specs.Lanes.{chunk_sum}
 use Rattle.sums.proofs.RowLaws.{chunk_part}
 use Rattle.dots_fused_block.specs.Terms.{terms}
-use Rattle.dots_fused_chunk.proofs.Rows.{rest-room, rest-terms}
+use Rattle.dots_fused_chunk.proofs.Rows.{rest_room, rest_terms}
 use native.Mathlib.Omega.{arith}
 use borrow.Author.Rules.{rules}
 use Rattle.dots_fused_chunk.proofs.chunk.chunk_dot.Statement.{statement}
@@ -24,7 +24,7 @@ room : (c : tie.After-block-bytes)
 room c =
     let t = c.before.before.before.before in
     let a = t.args in
-    rest-room a.format (8192 * a.c / 256) c.block-bytes.result a.n (a.n - 8192 * a.c) (length a.w.now) c.block-bytes.ensures t.requires.2 (omega arith)
+    rest_room a.format (8192 * a.c / 256) c.block-bytes.result a.n (a.n - 8192 * a.c) (length a.w.now) c.block-bytes.ensures t.requires.2 (omega arith)
 
 mul-from : tie.Need-overflow-mul-from
 mul-from c = omega (arith, room c)
@@ -44,7 +44,7 @@ all-blocks-requires c κs =
     rw (part_length t.args.w.now from (length t.args.w.now - from) (length t.args.w.now) (omega arith) (le_refl _)) (omega (arith, r.1))
 
 returns : tie.Need-returns
-unfolding chunkSum
+unfolding chunk_sum
 returns c =
     let d = c.before.before.before.before in
     let a = d.before.before.before.before.args in
@@ -52,10 +52,10 @@ returns c =
     let e = d.before.chunk-end.result in
     c.tree8.ensures
     ∙ ap tree c.before.all_blocks.ensures
-    ∙ chunk_part (terms a.format a.x.now a.w.now) _ a.n a.c _ (omega arith) (λ i h. rest-terms a.format a.x.now a.w.now (s / 256) s (e - s) d.block-bytes.result i d.block-bytes.ensures (omega arith) (omega arith))
+    ∙ chunk_part (terms a.format a.x.now a.w.now) _ a.n a.c _ (omega arith) (λ i h. rest_terms a.format a.x.now a.w.now (s / 256) s (e - s) d.block-bytes.result i d.block-bytes.ensures (omega arith) (omega arith))
 
-pub chunk-dot-spec : {M : Type 1} → statement M
-chunk-dot-spec =
+pub chunk_dot_spec : {M : Type 1} → statement M
+chunk_dot_spec =
     tie.close
     (tie.spec
     (λ c. search rules)

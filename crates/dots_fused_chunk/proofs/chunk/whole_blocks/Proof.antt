@@ -2,10 +2,10 @@
 use Prim.Native.Nat.{◌+◌, ◌-◌, ◌*◌, ◌/◌, ◌≤◌}
 use lib.ListN.{length}
 use Rattle.sums_lanes.specs.Lanes.{lanes}
-use Rattle.sums_lanes.proofs.LaneLaws.{lanes-none}
+use Rattle.sums_lanes.proofs.LaneLaws.{lanes_none}
 use Rattle.dots_fused_block.specs.Terms.{terms}
-use Rattle.dots_fused_chunk.proofs.Rows.{block_room, block-terms}
-use Rattle.dots_fused_block.proofs.Grown.{Grown, grown-more, grown-done}
+use Rattle.dots_fused_chunk.proofs.Rows.{block_room, block_terms}
+use Rattle.dots_fused_block.proofs.Grown.{Grown, grown_more, grown_done}
 use native.Mathlib.Omega.{arith}
 use borrow.Author.Rules.{rules}
 use Rattle.dots_fused_chunk.proofs.chunk.whole_blocks.Statement.{statement}
@@ -18,7 +18,7 @@ abbrev decreases-loop : tie.decreases-loop
 decreases-loop format x w size count out₀ b₀ out b = length x / 256 - b
 
 loop-holds : tie.Need-loop-init invariant-loop decreases-loop
-loop-holds c = (omega arith, lanes-none _ _)
+loop-holds c = (omega arith, lanes_none _ _)
 
 -- block b lies within the bytes
 room : (c : tie.In-loop invariant-loop decreases-loop)
@@ -43,18 +43,18 @@ loop-again c =
     let size = b.before.block-bytes in
     let a = b.before.before.before.before.args in
     let i = b.loop.b in
-    grown-more _ b.loop.out _ (terms a.format a.x.now a.w.now) _ 256 (length a.x.now / 256) i (omega arith) (omega arith) (omega arith)
-    (λ l h. block-terms a.format a.x.now a.w.now i (256 * i) (256 * i + 256 - 256 * i) size.result (i * size.result + size.result - i * size.result) l size.ensures (omega arith) (omega arith) (omega arith) h) c.add-block.ensures b.loop.invariant
+    grown_more _ b.loop.out _ (terms a.format a.x.now a.w.now) _ 256 (length a.x.now / 256) i (omega arith) (omega arith) (omega arith)
+    (λ l h. block_terms a.format a.x.now a.w.now i (256 * i) (256 * i + 256 - 256 * i) size.result (i * size.result + size.result - i * size.result) l size.ensures (omega arith) (omega arith) (omega arith) h) c.add-block.ensures b.loop.invariant
 
 returns : tie.Need-returns invariant-loop decreases-loop
 unfolding lanes
 returns c =
     let b = c.before in
     let a = b.before.before.before.before.args in
-    grown-done _ b.loop.out (terms a.format a.x.now a.w.now) 256 (length a.x.now / 256) b.loop.b (omega arith) b.loop.invariant
+    grown_done _ b.loop.out (terms a.format a.x.now a.w.now) 256 (length a.x.now / 256) b.loop.b (omega arith) b.loop.invariant
 
-pub whole-blocks-spec : {M : Type 1} → statement M
-whole-blocks-spec =
+pub whole_blocks_spec : {M : Type 1} → statement M
+whole_blocks_spec =
     tie.close
     (tie.spec
     invariant-loop

@@ -8,39 +8,39 @@ use native.Mathlib.Omega.{arith}
 use borrow.Author.Rules.{rules}
 use lib.IntN.{pos}
 use lib.ListN.{length, get_or}
-use Rattle.layouts.specs.Formats.{bytesK, hasMinimums}
+use Rattle.layouts.specs.Formats.{bytes_k, has_minimums}
 use Rattle.layouts.specs.declared.format.FormatK.TheVariants.{Q4K, Q5K, Q6K}
 use Rattle.layouts.specs.declared.format.Format.TheVariants.{OfK}
 use Rattle.layouts.proofs.Sizes.{sizes}
-use Rattle.layouts.proofs.Minimums.{with-minimums, left-q4k}
-use Rattle.k_quants.proofs.LaidOut.{laid-out-at, Laid, laid}
+use Rattle.layouts.proofs.Minimums.{with_minimums, left_q4k}
+use Rattle.k_quants.proofs.LaidOut.{laid_out_at, Laid, laid}
 use Rattle.dots_whole.specs.Inner.{FiveBits}
-use Rattle.dots_integer.proofs.Dots.{of-laid-out, Made, of-made}
-use Rattle.dots_integer.proofs.Bounds.{five-bits}
+use Rattle.dots_integer.proofs.Dots.{of_laid_out, Made, of_made}
+use Rattle.dots_integer.proofs.Bounds.{five_bits}
 use Rattle.dots_integer.proofs.dot.block_dot.Statement.{statement}
 use Rattle.dots_integer.proofs.dot.block_dot.Tie as tie
 
 -- a format with minimums
 module _ (c : tie.At-match-keys1) where
-  minimums : hasMinimums c.before.before.args.format ≡ true
-  minimums = with-minimums c.before.before.args.format c.match.keys1
+  minimums : has_minimums c.before.before.args.format ≡ true
+  minimums = with_minimums c.before.before.args.format c.match.keys1
 
   -- its whole numbers serve to make the products
   serve : {q : List ℕ} → (let a = c.before.before.args in Laid a.format a.w.now q → FiveBits q × (length q ≡ 256) × (length a.qs.now ≡ 256))
-  serve {q} l = let t = c.before.before in (five-bits t.args.w.now (λ i. (c.before.shared-slice-known.given i).fits) t.args.format q minimums l, l.0, t.requires.1)
+  serve {q} l = let t = c.before.before in (five_bits t.args.w.now (λ i. (c.before.shared-slice-known.given i).fits) t.args.format q minimums l, l.0, t.requires.1)
 
 -- the other arm is Q4_K's
 left : (c : tie.At-match2-keys2) → c.before.before.before.args.format ≡ Q4K
-left c = left-q4k c.before.before.before.args.format c.match2.keys2 (minimums c.before)
+left c = left_q4k c.before.before.before.args.format c.match2.keys2 (minimums c.before)
 
 quants-q5k-requires : tie.Need-quants-q5k-requires
-quants-q5k-requires c κs = c.before.before.before.before.requires.0 ∙ ap bytesK c.enum_told.given.1
+quants-q5k-requires c κs = c.before.before.before.before.requires.0 ∙ ap bytes_k c.enum_told.given.1
 
 products-requires : tie.Need-products-requires
 products-requires c κs = let q = c.before in serve q.before.before.before (laid Q5K _ q.before.enum_told.given.1 q.quants-q5k.ensures (λ i. refl))
 
 quants-q4k-requires : tie.Need-quants-q4k-requires
-quants-q4k-requires c κs = c.before.before.before.requires.0 ∙ ap bytesK (left c)
+quants-q4k-requires c κs = c.before.before.before.requires.0 ∙ ap bytes_k (left c)
 
 products-requires-2 : tie.Need-products-requires-2
 products-requires-2 c κs = let q = c.before in serve q.before.before (laid Q4K _ (left q.before) q.quants-q4k.ensures (λ i. refl))
@@ -57,18 +57,18 @@ dot-of-products-requires c κs =
     (omega (arith, t.requires.0, sizes (OfK t.args.format)), (made c.before).pairs.1, t.requires.2, t.requires.3 (minimums c.before.before))
 
 quants-q6k-requires : tie.Need-quants-q6k-requires
-quants-q6k-requires c κs = c.before.before.before.requires.0 ∙ ap bytesK c.enum-told2.given.1
+quants-q6k-requires c κs = c.before.before.before.requires.0 ∙ ap bytes_k c.enum-told2.given.1
 
 dot-of-runs-requires : tie.Need-dot-of-runs-requires
 dot-of-runs-requires c κs =
     let p = c.before.before.before.before.before.requires in
-    (p.0 ∙ ap bytesK c.before.before.enum-told2.given.1, p.1)
+    (p.0 ∙ ap bytes_k c.before.before.enum-told2.given.1, p.1)
 
 returns : tie.Need-returns
 returns c =
     let m = c.before.before in
     let a = m.before.before.before.args in
-    c.dot-of-products.ensures ∙ of-made a.d a.sums.now (minimums m.before) (made m)
+    c.dot-of-products.ensures ∙ of_made a.d a.sums.now (minimums m.before) (made m)
 
 returns-2 : tie.Need-returns-2
 returns-2 c =
@@ -76,10 +76,10 @@ returns-2 c =
     let a = q.before.before.before.before.args in
     let e = q.before.enum-told2.given.1 in
     c.dot-of-runs.ensures
-    ∙ of-laid-out Q6K a.format a.w.now a.d a.qs.now a.sums.now (λ i. get_or q.quants-q6k.result i (pos 0)) (ap hasMinimums e) (laid-out-at Q6K a.w.now (λ z. z) (pos 0) e q.quants-q6k.ensures (λ i. refl))
+    ∙ of_laid_out Q6K a.format a.w.now a.d a.qs.now a.sums.now (λ i. get_or q.quants-q6k.result i (pos 0)) (ap has_minimums e) (laid_out_at Q6K a.w.now (λ z. z) (pos 0) e q.quants-q6k.ensures (λ i. refl))
 
-pub block-dot-spec : {M : Type 1} → statement M
-block-dot-spec =
+pub block_dot_spec : {M : Type 1} → statement M
+block_dot_spec =
     tie.close
     (tie.spec
     (λ c. search rules)

@@ -9,10 +9,10 @@ use lib.Dec.{ltb}
 use lib.ListN.{length, take}
 use lib.Seq.{length-take-le}
 use Rattle.refusals.specs.Said.{value, refused}
-use Rattle.refusals.proofs.Laws.{given_yes, given-no}
-use Rattle.layouts.specs.Formats.{bytesK}
-use Rattle.dots_integer.specs.Dots.{blockDot, blockDotSays}
-use Rattle.dots_integer.proofs.Dots.{served-below}
+use Rattle.refusals.proofs.Laws.{given_yes, given_no}
+use Rattle.layouts.specs.Formats.{bytes_k}
+use Rattle.dots_integer.specs.Dots.{block_dot, block_dot_says}
+use Rattle.dots_integer.proofs.Dots.{served_below}
 use Rattle.dots_integer.proofs.dot.first_dot.Statement.{statement}
 use Rattle.dots_integer.proofs.dot.first_dot.Tie as tie
 
@@ -20,30 +20,30 @@ block-bytes-requires : tie.Need-block-bytes-requires
 block-bytes-requires c κs = search rules
 
 returns : tie.Need-returns
-unfolding blockDotSays
+unfolding block_dot_says
 returns c =
     let i = c.before in
     ap refused c.weights-short.ensures ∙ sym (given_yes _ _ _ (lt-ltb _ _ (rw i.before.block-bytes.ensures at i.if1.true)))
 
 -- the weights are enough
-enough : (c : tie.Else1) → (let a = c.before.before.before.args in ltb (length a.w.now) (bytesK a.format) ≡ false)
+enough : (c : tie.Else1) → (let a = c.before.before.before.args in ltb (length a.w.now) (bytes_k a.format) ≡ false)
 enough c = le-ltb _ _ (rw c.before.block-bytes.ensures at c.if1.false)
 
 count-serves-requires : tie.Need-count-serves-requires
 count-serves-requires c κs = search rules
 
 returns-2 : tie.Need-returns-2
-unfolding blockDotSays
-returns-2 c = sym (given-no _ _ _ (enough c.before.before) ∙ given_yes _ _ _ (rw c.before.count-serves.ensures at c.if2.true))
+unfolding block_dot_says
+returns-2 c = sym (given_no _ _ _ (enough c.before.before) ∙ given_yes _ _ _ (rw c.before.count-serves.ensures at c.if2.true))
 
 sums-serve-requires : tie.Need-sums-serve-requires
 sums-serve-requires c κs = search rules
 
 returns-3 : tie.Need-returns-3
-unfolding blockDotSays
+unfolding block_dot_says
 returns-3 c =
     let k = c.before.before in
-    sym (given-no _ _ _ (enough k.before.before) ∙ given-no _ _ _ (rw k.before.count-serves.ensures at k.if2.false) ∙ given_yes _ _ _ (rw c.before.sums-serve.ensures.0 at c.if3.true))
+    sym (given_no _ _ _ (enough k.before.before) ∙ given_no _ _ _ (rw k.before.count-serves.ensures at k.if2.false) ∙ given_yes _ _ _ (rw c.before.sums-serve.ensures.0 at c.if3.true))
 
 slice-aggregate-block-dot : tie.Need-slice-aggregate-block-dot
 slice-aggregate-block-dot c =
@@ -59,7 +59,7 @@ block-dot-requires c κs =
     (length-take-le size.result b.before.before.args.w.now (omega arith) ∙ size.ensures, search rules, search rules, r.ensures.1 (not-false r.result i.if3.false))
 
 returns-4 : tie.Need-returns-4
-unfolding blockDotSays
+unfolding block_dot_says
 returns-4 c =
     let i = c.before.before.before.before in
     let k = i.before.before in
@@ -68,12 +68,12 @@ returns-4 c =
     let b = e.before in
     let a = b.before.before.args in
     ap value (c.block-dot.ensures
-    ∙ ap (λ (m : ℕ). blockDot a.format (take m a.w.now) a.d a.qs.now a.sums.now 256) b.block-bytes.ensures
-    ∙ served-below a.format (take (bytesK a.format) a.w.now) a.d a.qs.now a.sums.now a.count a.n (sym s.ensures ∙ not-false s.result k.if2.false))
-    ∙ sym (given-no _ _ _ (enough e) ∙ given-no _ _ _ (rw s.ensures at k.if2.false) ∙ given-no _ _ _ (rw i.before.sums-serve.ensures.0 at i.if3.false))
+    ∙ ap (λ (m : ℕ). block_dot a.format (take m a.w.now) a.d a.qs.now a.sums.now 256) b.block-bytes.ensures
+    ∙ served_below a.format (take (bytes_k a.format) a.w.now) a.d a.qs.now a.sums.now a.count a.n (sym s.ensures ∙ not-false s.result k.if2.false))
+    ∙ sym (given_no _ _ _ (enough e) ∙ given_no _ _ _ (rw s.ensures at k.if2.false) ∙ given_no _ _ _ (rw i.before.sums-serve.ensures.0 at i.if3.false))
 
-pub first-dot-spec : {M : Type 1} → statement M
-first-dot-spec =
+pub first_dot_spec : {M : Type 1} → statement M
+first_dot_spec =
     tie.close
     (tie.spec
     block-bytes-requires

@@ -8,8 +8,8 @@ use Rattle.dots_integer.proofs.dot.half_at.Tie as tie
 returns : tie.Need-returns
 returns c = c.f16-to-f32.ensures ∙ ap widened c.before.le-u16.ensures
 
-pub half-at-spec : {M : Type 1} → statement M
-half-at-spec =
+pub half_at_spec : {M : Type 1} → statement M
+half_at_spec =
     tie.close
     (tie.spec
     (λ c. search rules)

@@ -4,13 +4,13 @@ use Prim.Native.Nat.{◌+◌, ◌-◌, ◌*◌, ◌≤◌}
 use native.Mathlib.Omega.{arith}
 use lib.ListN.{length}
 use lib.Seq.{length-take-le}
-use Rattle.memory.specs.Lists.{stretchesIn}
+use Rattle.memory.specs.Lists.{stretches_in}
 use Rattle.memory.proofs.Filled.{part_length}
 use Rattle.memory.proofs.Parts.{within}
 use Rattle.dots_activation.specs.Blocks.{SmallSums}
 use Rattle.dots_activation.specs.declared.block.Q8Block.{Q8Block}
-use Rattle.dots_integer.proofs.Bounds.{block-long, small-sums}
-use Rattle.dots_integer_row.proofs.Rows.{block-is, Dots, dots-start, dots-more, dots-met}
+use Rattle.dots_integer.proofs.Bounds.{block_long, small_sums}
+use Rattle.dots_integer_row.proofs.Rows.{block_is, Dots, dots_start, dots_more, dots_met}
 use Rattle.dots_integer_row.proofs.row.integer_row.Statement.{statement}
 use Rattle.dots_integer_row.proofs.row.integer_row.Tie as tie
 
@@ -18,13 +18,13 @@ abbrev invariant-loop : tie.invariant-loop
 invariant-loop format x w n size blocks dots₀ b₀ dots b = Dots format x w n dots₀ dots b
 
 abbrev decreases-loop : tie.decreases-loop
-decreases-loop format x w n size blocks dots₀ b₀ dots b = stretchesIn 256 n - b
+decreases-loop format x w n size blocks dots₀ b₀ dots b = stretches_in 256 n - b
 
 block-bytes-requires : tie.Need-block-bytes-requires invariant-loop decreases-loop
 block-bytes-requires c κs = omega arith
 
 loop-holds : tie.Need-loop-init invariant-loop decreases-loop
-loop-holds c = dots-start _ _ _ _ _ refl
+loop-holds c = dots_start _ _ _ _ _ refl
 
 -- block b lies within the row
 inside : (c : tie.After-block-end invariant-loop decreases-loop)
@@ -35,8 +35,8 @@ inside c =
     let l = c.before.before in
     let r = l.before.before.block-bytes in
     let s = l.before.before.before.before.before in
-    let room : stretchesIn 256 s.args.n * r.result ≤ length s.args.w.now = rw r.ensures s.requires.2 in
-    within l.loop.b r.result (stretchesIn 256 s.args.n) (length s.args.w.now) (omega arith) room
+    let room : stretches_in 256 s.args.n * r.result ≤ length s.args.w.now = rw r.ensures s.requires.2 in
+    within l.loop.b r.result (stretches_in 256 s.args.n) (length s.args.w.now) (omega arith) room
 
 mul-from : tie.Need-overflow-mul-from invariant-loop decreases-loop
 mul-from c = omega (arith, inside c)
@@ -64,7 +64,7 @@ part-block-dot-end c = omega (arith, inside c.before.before.before.before)
 long : (c : tie.After-quantized-block invariant-loop decreases-loop) → (length c.quantized-block.result.qs ≡ 256) × (length c.quantized-block.result.bsums ≡ 8)
 long c =
     let e = c.quantized-block.ensures in
-    (ap (λ (b : Q8Block). length b.qs) e ∙ (block-long _).0, ap (λ (b : Q8Block). length b.bsums) e ∙ (block-long _).1)
+    (ap (λ (b : Q8Block). length b.qs) e ∙ (block_long _).0, ap (λ (b : Q8Block). length b.bsums) e ∙ (block_long _).1)
 
 slice-aggregate-block-dot : tie.Need-slice-aggregate-block-dot invariant-loop decreases-loop
 slice-aggregate-block-dot c = sym (long c.before.before.before.before).0
@@ -80,7 +80,7 @@ block-dot-requires c κs =
     let size = t.before.before.block-bytes in
     let a = t.before.before.before.before.before.args in
     let from = t.loop.b * size.result in
-    (part_length a.w.now from size.result (from + size.result) refl (inside e) ∙ size.ensures, (long q).0, (long q).1, λ _. subst (λ (b : Q8Block). SmallSums b.bsums) (sym q.quantized-block.ensures) (small-sums _))
+    (part_length a.w.now from size.result (from + size.result) refl (inside e) ∙ size.ensures, (long q).0, (long q).1, λ _. subst (λ (b : Q8Block). SmallSums b.bsums) (sym q.quantized-block.ensures) (small_sums _))
 
 loop-again : tie.Need-loop-preserved invariant-loop decreases-loop
 loop-again c =
@@ -90,8 +90,8 @@ loop-again c =
     let t = made.before.before.before.before in
     let size = t.before.before.block-bytes in
     let a = t.before.before.before.before.before.args in
-    let v = c.block-dot.ensures ∙ block-is a.format a.x.now a.w.now a.n t.loop.b e.result size.result q.result size.ensures e.ensures.0 q.ensures in
-    dots-more a.format a.x.now a.w.now a.n _ t.loop.dots t.loop.b _ refl (omega arith) (omega arith) v t.loop.invariant
+    let v = c.block-dot.ensures ∙ block_is a.format a.x.now a.w.now a.n t.loop.b e.result size.result q.result size.ensures e.ensures.0 q.ensures in
+    dots_more a.format a.x.now a.w.now a.n _ t.loop.dots t.loop.b _ refl (omega arith) (omega arith) v t.loop.invariant
 
 slice-aggregate-canonical-combine : tie.Need-slice-aggregate-canonical-combine invariant-loop decreases-loop
 slice-aggregate-canonical-combine c =
@@ -103,10 +103,10 @@ returns c =
     let b = c.before.before.before.before in
     let a = b.before.before.before.before.before.args in
     let m = b.before.blocks-in in
-    dots-met a.format a.x.now a.w.now a.n _ b.loop.dots _ b.loop.b m.result _ (omega arith) m.ensures c.before.canonical-combine.ensures b.loop.invariant
+    dots_met a.format a.x.now a.w.now a.n _ b.loop.dots _ b.loop.b m.result _ (omega arith) m.ensures c.before.canonical-combine.ensures b.loop.invariant
 
-pub integer-row-spec : {M : Type 1} → statement M
-integer-row-spec =
+pub integer_row_spec : {M : Type 1} → statement M
+integer_row_spec =
     tie.close
     (tie.spec
     invariant-loop

@@ -3,12 +3,12 @@ use mathlib.Core.Path.{◌≡◌, refl, sym, ap, subst, ◌∙◌}
 use Prim.Native.Nat.{ℕ, ◌+◌, ◌-◌, ◌*◌, ◌/◌, ◌≤◌, ◌<◌}
 use lib.ListN.{length, take, drop, length-set}
 use Rattle.memory.proofs.Filled.{part_length}
-use Rattle.memory.proofs.Laid.{laid-long}
+use Rattle.memory.proofs.Laid.{laid_long}
 use Rattle.dots_activation.specs.declared.block.Q8Block.{Q8Block}
 use Rattle.dots_activation.specs.Blocks.{block_of}
 use Rattle.dots_kept_row.specs.Inner.{Keeps}
-use Rattle.dots_integer.proofs.Bounds.{block-long}
-use Rattle.dots_kept_row.proofs.Blocks.{keeps-none, keeps-more}
+use Rattle.dots_integer.proofs.Bounds.{block_long}
+use Rattle.dots_kept_row.proofs.Blocks.{keeps_none, keeps_more}
 use native.Mathlib.Omega.{arith}
 use Rattle.dots_kept_row.proofs.kept.keep_row.Statement.{statement}
 use Rattle.dots_kept_row.proofs.kept.keep_row.Tie as tie
@@ -20,7 +20,7 @@ abbrev decreases-loop : tie.decreases-loop
 decreases-loop x ds₀ qs₀ sums₀ blocks t₀ ds qs sums t = length x / 256 - t
 
 loop-holds : tie.Need-loop-init invariant-loop decreases-loop
-loop-holds c = (omega arith, refl, refl, refl, keeps-none _ _ _ _)
+loop-holds c = (omega arith, refl, refl, refl, keeps_none _ _ _ _)
 
 -- there is room for block t
 room : (c : tie.In-loop invariant-loop decreases-loop)
@@ -37,7 +37,7 @@ quantized-block-requires c κs =
 long : (c : tie.After-quantized-block invariant-loop decreases-loop) → (length c.quantized-block.result.qs ≡ 256) × (length c.quantized-block.result.bsums ≡ 8)
 long c =
     let e = c.quantized-block.ensures in
-    (ap (λ (b : Q8Block). length b.qs) e ∙ (block-long _).0, ap (λ (b : Q8Block). length b.bsums) e ∙ (block-long _).1)
+    (ap (λ (b : Q8Block). length b.qs) e ∙ (block_long _).0, ap (λ (b : Q8Block). length b.bsums) e ∙ (block_long _).1)
 
 slice-aggregate-lay-quants : tie.Need-slice-aggregate-lay-quants invariant-loop decreases-loop
 slice-aggregate-lay-quants c = sym (long c.before.before).0
@@ -76,9 +76,9 @@ loop-again c =
     let r = room k.before.before in (
       r.0,
       length-set l.ds l.t b.d ∙ l.invariant.1,
-      laid-long l.qs q.lay-quants.new.1.0 from 256 (from + 256) refl r.2 (ap length laid ∙ (long k).0) ∙ l.invariant.2,
-      laid-long l.sums s.lay-sums.new.1.0 at 8 (at + 8) refl r.3 (ap length summed ∙ (long k).1) ∙ l.invariant.3,
-      keeps-more x l.ds l.qs l.sums _ _ _ _ l.t b l.invariant.4 r.1 (omega (arith, r)) (omega (arith, r)) is laid summed,
+      laid_long l.qs q.lay-quants.new.1.0 from 256 (from + 256) refl r.2 (ap length laid ∙ (long k).0) ∙ l.invariant.2,
+      laid_long l.sums s.lay-sums.new.1.0 at 8 (at + 8) refl r.3 (ap length summed ∙ (long k).1) ∙ l.invariant.3,
+      keeps_more x l.ds l.qs l.sums _ _ _ _ l.t b l.invariant.4 r.1 (omega (arith, r)) (omega (arith, r)) is laid summed,
     )
 
 same_length : tie.Need-same-length invariant-loop decreases-loop
@@ -97,8 +97,8 @@ returns c =
     let e : l.t ≡ length x / 256 = omega arith in
     subst (λ (n : ℕ). Keeps x n l.ds l.qs l.sums) e l.invariant.4
 
-pub keep-row-spec : {M : Type 1} → statement M
-keep-row-spec =
+pub keep_row_spec : {M : Type 1} → statement M
+keep_row_spec =
     tie.close
     (tie.spec
     invariant-loop

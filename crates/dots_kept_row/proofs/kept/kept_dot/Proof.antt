@@ -26,8 +26,8 @@ returns c =
     let a = c.before.before.before.before.before.before.args in
     rw (lent a.qs.now (256 * a.t) 256, lent a.sums.now (8 * a.t) 8) at c.block-dot.ensures
 
-pub kept-dot-spec : {M : Type 1} → statement M
-kept-dot-spec =
+pub kept_dot_spec : {M : Type 1} → statement M
+kept_dot_spec =
     tie.close
     (tie.spec
     (λ c. search rules)

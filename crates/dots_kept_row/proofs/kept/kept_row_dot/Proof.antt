@@ -3,12 +3,12 @@ use mathlib.Core.Path.{refl, ap, ◌∙◌}
 use mathlib.Core.List.{List}
 use Prim.Native.Nat.{ℕ, ◌+◌, ◌-◌, ◌*◌, ◌≤◌, ◌<◌}
 use lib.ListN.{length}
-use Rattle.memory.proofs.Filled.{Filling, filling-start, filling-more, filling-done, part_length}
-use Rattle.memory.proofs.Parts.{within, lent-part}
-use Rattle.layouts.specs.Formats.{bytesK}
+use Rattle.memory.proofs.Filled.{Filling, filling_start, filling_more, filling_done, part_length}
+use Rattle.memory.proofs.Parts.{within, lent_part}
+use Rattle.layouts.specs.Formats.{bytes_k}
 use Rattle.layouts.specs.declared.format.Format.TheVariants.{OfK}
 use Rattle.layouts.proofs.Sizes.{sizes}
-use Rattle.dots_kept_row.specs.Inner.{dotKept, keptDot}
+use Rattle.dots_kept_row.specs.Inner.{dot_kept, kept_dot}
 use Rattle.dots_kept_row.proofs.Meets.{table_meets}
 use Rattle.dots_kept_row.proofs.Blocks.{kept_less}
 use native.Mathlib.Omega.{arith}
@@ -16,13 +16,13 @@ use Rattle.dots_kept_row.proofs.kept.kept_row_dot.Statement.{statement}
 use Rattle.dots_kept_row.proofs.kept.kept_row_dot.Tie as tie
 
 abbrev invariant-loop : tie.invariant-loop
-invariant-loop format meeting w ds qs sums dots₀ size t₀ t-end dots t = Filling (keptDot format w ds qs sums) dots₀ (length dots₀) dots t
+invariant-loop format meeting w ds qs sums dots₀ size t₀ t_end dots t = Filling (kept_dot format w ds qs sums) dots₀ (length dots₀) dots t
 
 abbrev decreases-loop : tie.decreases-loop
-decreases-loop format meeting w ds qs sums dots₀ size t₀ t-end dots t = length dots₀ - t
+decreases-loop format meeting w ds qs sums dots₀ size t₀ t_end dots t = length dots₀ - t
 
 loop-holds : tie.Need-loop-init invariant-loop decreases-loop
-loop-holds c = filling-start _ _ _ refl
+loop-holds c = filling_start _ _ _ refl
 
 -- block t lies within the row
 facts : (c : tie.In-loop invariant-loop decreases-loop)
@@ -66,8 +66,8 @@ loop-again c =
     let r = d.before.before.block-bytes in
     let a = d.before.before.before.before.before.before.args in
     let l = d.before.loop in
-    filling-more (keptDot a.format a.w.now a.ds.now a.qs.now a.sums.now) a.dots.now (length a.dots.now) l.dots l.t _ refl l.invariant d.loop-test.true
-    (c.kept-dot.ensures ∙ ap (λ (v : List ℕ). dotKept a.format v a.ds.now a.qs.now a.sums.now l.t) (lent-part a.w.now l.t r.result (bytesK a.format) r.ensures))
+    filling_more (kept_dot a.format a.w.now a.ds.now a.qs.now a.sums.now) a.dots.now (length a.dots.now) l.dots l.t _ refl l.invariant d.loop-test.true
+    (c.kept-dot.ensures ∙ ap (λ (v : List ℕ). dot_kept a.format v a.ds.now a.qs.now a.sums.now l.t) (lent_part a.w.now l.t r.result (bytes_k a.format) r.ensures))
 
 same_length : tie.Need-same-length invariant-loop decreases-loop
 same_length c =
@@ -80,11 +80,11 @@ returns c =
     let d = m.before.before in
     let a = d.before.before.before.before.before.before.args in
     let l = d.before.loop in
-    let f = keptDot a.format a.w.now a.ds.now a.qs.now a.sums.now in
-    m.meet.ensures ∙ table_meets a.meeting f l.dots (length a.dots.now) (filling-done f a.dots.now (length a.dots.now) l.dots l.t refl l.invariant d.loop-test.false)
+    let f = kept_dot a.format a.w.now a.ds.now a.qs.now a.sums.now in
+    m.meet.ensures ∙ table_meets a.meeting f l.dots (length a.dots.now) (filling_done f a.dots.now (length a.dots.now) l.dots l.t refl l.invariant d.loop-test.false)
 
-pub kept-row-dot-spec : {M : Type 1} → statement M
-kept-row-dot-spec =
+pub kept_row_dot_spec : {M : Type 1} → statement M
+kept_row_dot_spec =
     tie.close
     (tie.spec
     invariant-loop

@@ -6,7 +6,7 @@ use lib.Ieee.{Float}
 use Rattle.sums_lanes.specs.Lanes.{values}
 use Rattle.dots_kept_row.specs.declared.meeting.Meeting.{Meeting}
 use Rattle.dots_kept_row.specs.Meets.{meets}
-use Rattle.dots_kept_row.proofs.Meets.{tree-meets, running-meets}
+use Rattle.dots_kept_row.proofs.Meets.{tree_meets, running_meets}
 use borrow.Author.Rules.{rules}
 use Rattle.dots_kept_row.proofs.meeting.meet.Statement.{statement}
 use Rattle.dots_kept_row.proofs.meeting.meet.Tie as tie
@@ -16,16 +16,16 @@ returns c =
     let k = c.before.before in
     let e = k.before.before in
     let l = e.before.before.before.args.dots.now in
-    ap (λ (q : Float × List Float). q.0) k.canonical-combine.ensures ∙ tree-meets l ∙ ap (λ (m : Meeting). meets m (values l) (length l)) (sym e.enum_told.given.1)
+    ap (λ (q : Float × List Float). q.0) k.canonical-combine.ensures ∙ tree_meets l ∙ ap (λ (m : Meeting). meets m (values l) (length l)) (sym e.enum_told.given.1)
 
 returns-2 : tie.Need-returns-2
 returns-2 c =
     let e = c.before.before in
     let l = e.before.before.before.args.dots.now in
-    c.running-sum.ensures ∙ running-meets l ∙ ap (λ (m : Meeting). meets m (values l) (length l)) (sym e.enum-told2.given.1)
+    c.running-sum.ensures ∙ running_meets l ∙ ap (λ (m : Meeting). meets m (values l) (length l)) (sym e.enum-told2.given.1)
 
-pub meet-spec : {M : Type 1} → statement M
-meet-spec =
+pub meet_spec : {M : Type 1} → statement M
+meet_spec =
     tie.close
     (tie.spec
     (λ c. search rules)

@@ -11,10 +11,10 @@ use Rattle.dots_kept_row.proofs.meeting.running_sum.Statement.{statement}
 use Rattle.dots_kept_row.proofs.meeting.running_sum.Tie as tie
 
 abbrev invariant-loop : tie.invariant-loop
-invariant-loop x sum₀ i₀ i-end sum i = (i ≤ length x) × (i-end ≡ length x) × (sum ≡ running (values x) i)
+invariant-loop x sum₀ i₀ i_end sum i = (i ≤ length x) × (i_end ≡ length x) × (sum ≡ running (values x) i)
 
 abbrev decreases-loop : tie.decreases-loop
-decreases-loop x sum₀ i₀ i-end sum i = length x - i
+decreases-loop x sum₀ i₀ i_end sum i = length x - i
 
 loop-holds : tie.Need-loop-init invariant-loop decreases-loop
 loop-holds c = (omega arith, refl, running_none _)
@@ -32,8 +32,8 @@ returns c =
     let e : l.i ≡ length x = omega arith in
     l.invariant.2 ∙ ap (running (values x)) e
 
-pub running-sum-spec : {M : Type 1} → statement M
-running-sum-spec =
+pub running_sum_spec : {M : Type 1} → statement M
+running_sum_spec =
     tie.close
     (tie.spec
     invariant-loop

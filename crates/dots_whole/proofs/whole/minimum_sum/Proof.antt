@@ -6,21 +6,21 @@ use lib.IntN.{ℤ, pos, ◌*ℤ◌}
 use mir.Syntax.{w8, w32}
 use mir.ValLaws.{to_z_pos}
 use Rattle.numbers.proofs.Signed.{read_is}
-use Rattle.layouts.specs.K.{minimumQ4K}
+use Rattle.layouts.specs.K.{minimum_q4k}
 use Rattle.dots_activation.specs.Whole.{elem}
 use Rattle.dots_activation.proofs.Magnitudes.{within}
-use Rattle.dots_activation.proofs.Loops.{Acc, acc-none, acc_all, call_fits, call-more}
+use Rattle.dots_activation.proofs.Loops.{Acc, acc_none, acc_all, call_fits, call_more}
 use Rattle.dots_whole.proofs.whole.minimum_sum.Statement.{statement}
 use Rattle.dots_whole.proofs.whole.minimum_sum.Tie as tie
 
 abbrev invariant-loop : tie.invariant-loop
-invariant-loop w sums m₀ j₀ m j = (j ≤ 8) × Acc w32 (λ (k : ℕ). pos (minimumQ4K w k) *ℤ elem sums k) 133693440 j m
+invariant-loop w sums m₀ j₀ m j = (j ≤ 8) × Acc w32 (λ (k : ℕ). pos (minimum_q4k w k) *ℤ elem sums k) 133693440 j m
 
 abbrev decreases-loop : tie.decreases-loop
 decreases-loop w sums m₀ j₀ m j = 8 - j
 
 loop-holds : tie.Need-loop-init invariant-loop decreases-loop
-loop-holds c = (omega arith, acc-none w32 _ 133693440)
+loop-holds c = (omega arith, acc_none w32 _ 133693440)
 
 cast-weighed : tie.Need-overflow-cast-weighed invariant-loop decreases-loop
 cast-weighed c = record { sfits = omega (arith, c.minimum-q4k.ensures.1) }
@@ -34,7 +34,7 @@ weighed-requires c κs =
 turn : (c : tie.After-weighed invariant-loop decreases-loop)
     → let b = c.before.before.before.before in
     let a = b.before.before.args in
-    c.weighed.result ≡ pos (minimumQ4K a.w.now b.loop.j) *ℤ elem a.sums.now b.loop.j
+    c.weighed.result ≡ pos (minimum_q4k a.w.now b.loop.j) *ℤ elem a.sums.now b.loop.j
 turn c =
     let b = c.before.before.before.before in
     let a = b.before.before.args in
@@ -46,13 +46,13 @@ add-m : tie.Need-overflow-add-m invariant-loop decreases-loop
 add-m c = call_fits 8 c.before.before.before.before.loop.invariant.1 c.weighed.type-inv (turn c) c.weighed.ensures.1 (omega arith) tt
 
 loop-again : tie.Need-loop-preserved invariant-loop decreases-loop
-loop-again c = (omega arith, call-more 8 c.before.before.before.before.loop.invariant.1 c.weighed.type-inv (turn c) c.weighed.ensures.1 (omega arith) tt)
+loop-again c = (omega arith, call_more 8 c.before.before.before.before.loop.invariant.1 c.weighed.type-inv (turn c) c.weighed.ensures.1 (omega arith) tt)
 
 returns : tie.Need-returns invariant-loop decreases-loop
 returns c = (acc_all 8 c.before.loop.invariant.1 (omega arith)).0
 
-pub minimum-sum-spec : {M : Type 1} → statement M
-minimum-sum-spec =
+pub minimum_sum_spec : {M : Type 1} → statement M
+minimum_sum_spec =
     tie.close
     (tie.spec
     invariant-loop

@@ -8,12 +8,12 @@ use borrow.Author.Count.{below_none, below_more}
 use lib.IntN.{ℤ, pos}
 use lib.ListN.{replicate}
 use Rattle.memory.specs.Lists.{table}
-use Rattle.memory.proofs.Filled.{getD-table, filled-all, part_length}
-use Rattle.memory.proofs.Parts.{InParts, parts_none, parts_more, parts-done}
+use Rattle.memory.proofs.Filled.{get_or_table, filled_all, part_length}
+use Rattle.memory.proofs.Parts.{InParts, parts_none, parts_more, parts_done}
 use Rattle.dots_activation.specs.Whole.{elem, Within}
 use Rattle.dots_activation.specs.Inner.{pair_of}
-use Rattle.dots_whole.specs.Inner.{productAt}
-use Rattle.dots_whole.proofs.Lent.{lent_length, five-bits-lent, pairs-lent}
+use Rattle.dots_whole.specs.Inner.{product_at}
+use Rattle.dots_whole.proofs.Lent.{lent_length, five_bits_lent, pairs_lent}
 use Rattle.dots_whole.proofs.whole.products.Statement.{statement}
 use Rattle.dots_whole.proofs.whole.products.Tie as tie
 
@@ -22,13 +22,13 @@ abbrev Near : (ℕ → ℤ) → ℕ → Type 0
 Near f g = (k : ℕ) → k < g → (i : ℕ) → i < 32 → Within 7936 (f (32 * k + i))
 
 abbrev invariant-loop : tie.invariant-loop
-invariant-loop q x p₀ g₀ g_end p g = InParts (pair_of (productAt q x)) p₀ (λ k. 32 * k) 4 p g × Near (pair_of (productAt q x)) g
+invariant-loop q x p₀ g₀ g_end p g = InParts (pair_of (product_at q x)) p₀ (λ k. 32 * k) 4 p g × Near (pair_of (product_at q x)) g
 
 abbrev decreases-loop : tie.decreases-loop
 decreases-loop q x p₀ g₀ g_end p g = 4 - g
 
 loop-holds : tie.Need-loop-init invariant-loop decreases-loop
-loop-holds c = (parts_none (pair_of (productAt c.before.args.q.now c.before.args.x.now)) (replicate 128 (pos 0)) (λ k. 32 * k) 4 refl, below_none _)
+loop-holds c = (parts_none (pair_of (product_at c.before.args.q.now c.before.args.x.now)) (replicate 128 (pos 0)) (λ k. 32 * k) 4 refl, below_none _)
 
 two-sub-blocks-requires : tie.Need-two-sub-blocks-requires invariant-loop decreases-loop
 two-sub-blocks-requires c κs =
@@ -37,7 +37,7 @@ two-sub-blocks-requires c κs =
     let g = d.loop.g in
     let h : g < 4 = omega arith in
     let q = t.requires.1 in
-    (five-bits-lent t.args.q.now g q h t.requires.0, lent_length t.args.q.now g q h, lent_length t.args.x.now g t.requires.2 h, part_length d.loop.p (32 * g) 32 (32 * g + 32) refl (omega arith))
+    (five_bits_lent t.args.q.now g q h t.requires.0, lent_length t.args.q.now g q h, lent_length t.args.x.now g t.requires.2 h, part_length d.loop.p (32 * g) 32 (32 * g + 32) refl (omega arith))
 
 loop-again : tie.Need-loop-preserved invariant-loop decreases-loop
 loop-again c =
@@ -45,20 +45,20 @@ loop-again c =
     let d = c.before.before.before.before.before.before in
     let a = d.before.before.args in
     let g = d.loop.g in
-    let f : ℕ → ℤ = pair_of (productAt a.q.now a.x.now) in
-    let same = pairs-lent a.q.now a.x.now g in
+    let f : ℕ → ℤ = pair_of (product_at a.q.now a.x.now) in
+    let same = pairs_lent a.q.now a.x.now g in
     (parts_more f (replicate 128 (pos 0)) (λ k. 32 * k) 4 _ d.loop.p _ g 32 (omega arith) (omega arith) (omega arith) r.0 same d.loop.invariant.0, below_more _ _ d.loop.invariant.1 (λ i h. subst (Within 7936) (same i h) (r.1 i h)))
 
 returns : tie.Need-returns invariant-loop decreases-loop
 returns c =
     let l = c.before.loop in
     let a = c.before.before.before.args in
-    let f : ℕ → ℤ = pair_of (productAt a.q.now a.x.now) in
-    let e : l.p ≡ table f 128 = parts-done f (replicate 128 (pos 0)) (λ k. 32 * k) 4 l.p l.g (omega arith) l.invariant.0 ∙ filled-all f (replicate 128 (pos 0)) 128 (le_of_eq refl) in
-    (e, record { near = λ i h. let s : 32 * (i / 32) + i % 32 ≡ i = omega arith in subst (Within 7936) (ap f s ∙ sym (getD-table f 128 i (pos 0) h) ∙ ap (λ (m : List ℤ). elem m i) (sym e)) (l.invariant.1 (i / 32) (omega arith) (i % 32) (omega arith)) })
+    let f : ℕ → ℤ = pair_of (product_at a.q.now a.x.now) in
+    let e : l.p ≡ table f 128 = parts_done f (replicate 128 (pos 0)) (λ k. 32 * k) 4 l.p l.g (omega arith) l.invariant.0 ∙ filled_all f (replicate 128 (pos 0)) 128 (le_of_eq refl) in
+    (e, record { near = λ i h. let s : 32 * (i / 32) + i % 32 ≡ i = omega arith in subst (Within 7936) (ap f s ∙ sym (get_or_table f 128 i (pos 0) h) ∙ ap (λ (m : List ℤ). elem m i) (sym e)) (l.invariant.1 (i / 32) (omega arith) (i % 32) (omega arith)) })
 
-pub products-spec : {M : Type 1} → statement M
-products-spec =
+pub products_spec : {M : Type 1} → statement M
+products_spec =
     tie.close
     (tie.spec
     invariant-loop

@@ -17,8 +17,8 @@ returns c =
     let v = read_is w16 _ r.type-inv in
     (v ∙ (rw (read_is w8 _ c.before.before.before.two-products-arg.given, read_is w8 _ c.before.two-products-arg2.given) at r.ensures.0), subst (Within 7936) (sym v) r.ensures.1)
 
-pub products-at-spec : {M : Type 1} → statement M
-products-at-spec =
+pub products_at_spec : {M : Type 1} → statement M
+products_at_spec =
     tie.close
     (tie.spec
     (λ c. search rules)

@@ -7,7 +7,7 @@ use mir.Syntax.{w8, w32}
 use Rattle.numbers.proofs.Signed.{read_is}
 use Rattle.dots_activation.specs.Whole.{elem}
 use Rattle.dots_activation.proofs.Magnitudes.{within}
-use Rattle.dots_activation.proofs.Loops.{Acc, acc-none, acc_all, call_fits, call-more}
+use Rattle.dots_activation.proofs.Loops.{Acc, acc_none, acc_all, call_fits, call_more}
 use Rattle.dots_whole.proofs.whole.run.Statement.{statement}
 use Rattle.dots_whole.proofs.whole.run.Tie as tie
 
@@ -18,7 +18,7 @@ abbrev decreases-loop : tie.decreases-loop
 decreases-loop q x e from s₀ l₀ s l = 16 - l
 
 loop-holds : tie.Need-loop-init invariant-loop decreases-loop
-loop-holds c = (omega arith, acc-none w32 _ 16384)
+loop-holds c = (omega arith, acc_none w32 _ 16384)
 
 product-requires : tie.Need-product-requires invariant-loop decreases-loop
 product-requires c κs = tt
@@ -34,7 +34,7 @@ add-s : tie.Need-overflow-add-s invariant-loop decreases-loop
 add-s c = call_fits 16 c.before.before.before.before.loop.invariant.1 c.product.type-inv (turn c) c.product.ensures.1 (omega arith) tt
 
 loop-again : tie.Need-loop-preserved invariant-loop decreases-loop
-loop-again c = (omega arith, call-more 16 c.before.before.before.before.loop.invariant.1 c.product.type-inv (turn c) c.product.ensures.1 (omega arith) tt)
+loop-again c = (omega arith, call_more 16 c.before.before.before.before.loop.invariant.1 c.product.type-inv (turn c) c.product.ensures.1 (omega arith) tt)
 
 returns : tie.Need-returns invariant-loop decreases-loop
 returns c = let r = acc_all 16 c.before.loop.invariant.1 (omega arith) in (r.0, within r.1 (omega arith))

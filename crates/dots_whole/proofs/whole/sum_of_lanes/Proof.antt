@@ -4,7 +4,7 @@ use native.Mathlib.Omega.{arith}
 use mir.Syntax.{w32}
 use Rattle.numbers.proofs.Signed.{read_is}
 use Rattle.dots_activation.specs.Whole.{elem}
-use Rattle.dots_activation.proofs.Loops.{Acc, acc-none, acc-fits, acc_more, acc_all}
+use Rattle.dots_activation.proofs.Loops.{Acc, acc_none, acc_fits, acc_more, acc_all}
 use Rattle.dots_whole.proofs.whole.sum_of_lanes.Statement.{statement}
 use Rattle.dots_whole.proofs.whole.sum_of_lanes.Tie as tie
 
@@ -15,10 +15,10 @@ abbrev decreases-loop : tie.decreases-loop
 decreases-loop lanes a₀ l₀ a l = 8 - l
 
 loop-holds : tie.Need-loop-init invariant-loop decreases-loop
-loop-holds c = (omega arith, acc-none w32 _ 7999488)
+loop-holds c = (omega arith, acc_none w32 _ 7999488)
 
 add_a : tie.Need-overflow-add-a invariant-loop decreases-loop
-add_a c = let b = c.before.before in acc-fits 8 b.loop.invariant.1 (read_is w32 _ c.a.given) (b.before.requires.near _ (omega arith)) (omega arith) tt
+add_a c = let b = c.before.before in acc_fits 8 b.loop.invariant.1 (read_is w32 _ c.a.given) (b.before.requires.near _ (omega arith)) (omega arith) tt
 
 loop-again : tie.Need-loop-preserved invariant-loop decreases-loop
 loop-again c = let b = c.before.before in (omega arith, acc_more 8 b.loop.invariant.1 (read_is w32 _ c.a.given) (b.before.requires.near _ (omega arith)) (omega arith) tt)
@@ -26,8 +26,8 @@ loop-again c = let b = c.before.before in (omega arith, acc_more 8 b.loop.invari
 returns : tie.Need-returns invariant-loop decreases-loop
 returns c = (acc_all 8 c.before.loop.invariant.1 (omega arith)).0
 
-pub sum-of-lanes-spec : {M : Type 1} → statement M
-sum-of-lanes-spec =
+pub sum_of_lanes_spec : {M : Type 1} → statement M
+sum_of_lanes_spec =
     tie.close
     (tie.spec
     invariant-loop

@@ -8,45 +8,45 @@ use mir.Syntax.{w8, w16}
 use mir.Val.{SFits, to_z, of_z}
 use mir.ValLaws.{to_z_pos}
 use Rattle.dots_activation.specs.Whole.{Within}
-use Rattle.dots_activation.proofs.Magnitudes.{pos-within, within-width}
-use Rattle.dots_activation.proofs.Loops.{wide_fits, wide_is, product-fits, product-made, sum_fits, sum-made}
+use Rattle.dots_activation.proofs.Magnitudes.{pos_within, within_width}
+use Rattle.dots_activation.proofs.Loops.{wide_fits, wide_is, product_fits, product_made, sum_fits, sum_made}
 use Rattle.dots_whole.proofs.whole.two_products.Statement.{statement}
 use Rattle.dots_whole.proofs.whole.two_products.Tie as tie
 
 -- a and x, as the machine multiplies them
 module _ (a : ℕ) (x : ℤ) (h : a < 32) (p : mag x < 2 ^ 7) where
-  one-fits : SFits w16 (to_z w16 a *ℤ to_z w16 (of_z w16 (to_z w8 (of_z w8 x))))
-  one-fits = product-fits w16 (to_z_pos w16 a (omega arith)) (wide_is w8 w16 x p tt) (pos-within {B = 31} (omega arith)) (within-width w8 x p) tt
+  one_fits : SFits w16 (to_z w16 a *ℤ to_z w16 (of_z w16 (to_z w8 (of_z w8 x))))
+  one_fits = product_fits w16 (to_z_pos w16 a (omega arith)) (wide_is w8 w16 x p tt) (pos_within {B = 31} (omega arith)) (within_width w8 x p) tt
 
-  one-made : (to_z w16 (of_z w16 (to_z w16 a *ℤ to_z w16 (of_z w16 (to_z w8 (of_z w8 x))))) ≡ pos a *ℤ x) × Within 3968 (to_z w16 (of_z w16 (to_z w16 a *ℤ to_z w16 (of_z w16 (to_z w8 (of_z w8 x))))))
-  one-made = product-made w16 (to_z_pos w16 a (omega arith)) (wide_is w8 w16 x p tt) (pos-within {B = 31} (omega arith)) (within-width w8 x p) tt
+  one_made : (to_z w16 (of_z w16 (to_z w16 a *ℤ to_z w16 (of_z w16 (to_z w8 (of_z w8 x))))) ≡ pos a *ℤ x) × Within 3968 (to_z w16 (of_z w16 (to_z w16 a *ℤ to_z w16 (of_z w16 (to_z w8 (of_z w8 x))))))
+  one_made = product_made w16 (to_z_pos w16 a (omega arith)) (wide_is w8 w16 x p tt) (pos_within {B = 31} (omega arith)) (within_width w8 x p) tt
 
 cast-result-2 : tie.Need-overflow-cast-result-2
 cast-result-2 c = wide_fits w8 w16 c.args.x c.ranges.x.sfits tt
 
 mul-result : tie.Need-overflow-mul-result
-mul-result c = one-fits c.args.a c.args.x c.requires.0 c.ranges.x.sfits
+mul-result c = one_fits c.args.a c.args.x c.requires.0 c.ranges.x.sfits
 
 cast-result-4 : tie.Need-overflow-cast-result-4
 cast-result-4 c = wide_fits w8 w16 c.args.y c.ranges.y.sfits tt
 
 mul-result-2 : tie.Need-overflow-mul-result-2
-mul-result-2 c = one-fits c.args.b c.args.y c.requires.1 c.ranges.y.sfits
+mul-result-2 c = one_fits c.args.b c.args.y c.requires.1 c.ranges.y.sfits
 
 add-result : tie.Need-overflow-add-result
 add-result c =
-    let m = one-made c.args.a c.args.x c.requires.0 c.ranges.x.sfits in
-    let n = one-made c.args.b c.args.y c.requires.1 c.ranges.y.sfits in
+    let m = one_made c.args.a c.args.x c.requires.0 c.ranges.x.sfits in
+    let n = one_made c.args.b c.args.y c.requires.1 c.ranges.y.sfits in
     sum_fits w16 m.0 n.0 m.1 n.1 tt
 
 returns : tie.Need-returns
 returns c =
-    let m = one-made c.args.a c.args.x c.requires.0 c.ranges.x.sfits in
-    let n = one-made c.args.b c.args.y c.requires.1 c.ranges.y.sfits in
-    sum-made w16 m.0 n.0 m.1 n.1 tt
+    let m = one_made c.args.a c.args.x c.requires.0 c.ranges.x.sfits in
+    let n = one_made c.args.b c.args.y c.requires.1 c.ranges.y.sfits in
+    sum_made w16 m.0 n.0 m.1 n.1 tt
 
-pub two-products-spec : {M : Type 1} → statement M
-two-products-spec =
+pub two_products_spec : {M : Type 1} → statement M
+two_products_spec =
     tie.close
     (tie.spec
     (λ c. omega arith)

@@ -6,6 +6,6 @@ use Rattle.exports.proofs.activation_blocks.jambharrow_dot_q5k_q8_block.Tie as t
 returns : tie.Need-returns
 returns c = cc
 
-pub jambharrow-dot-q5k-q8-block-spec : {M : Type 1} → statement M
-jambharrow-dot-q5k-q8-block-spec =
+pub jambharrow_dot_q5k_q8_block_spec : {M : Type 1} → statement M
+jambharrow_dot_q5k_q8_block_spec =
     tie.close (tie.spec (λ c κs. search rules) (λ c κs. search rules) returns)

@@ -6,6 +6,6 @@ use Rattle.exports.proofs.activation_blocks.jambharrow_integer_dot_q4k.Tie as ti
 returns : tie.Need-returns
 returns c = cc
 
-pub jambharrow-integer-dot-q4k-spec : {M : Type 1} → statement M
-jambharrow-integer-dot-q4k-spec =
+pub jambharrow_integer_dot_q4k_spec : {M : Type 1} → statement M
+jambharrow_integer_dot_q4k_spec =
     tie.close (tie.spec (λ c κs. search rules) (λ c κs. search rules) returns)

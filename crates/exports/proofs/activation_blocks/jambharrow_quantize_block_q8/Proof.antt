@@ -8,6 +8,6 @@ use Rattle.exports.proofs.activation_blocks.jambharrow_quantize_block_q8.Tie as 
 returns : tie.Need-returns
 returns c = cc
 
-pub jambharrow-quantize-block-q8-spec : {M : Type 1} → statement M
-jambharrow-quantize-block-q8-spec =
+pub jambharrow_quantize_block_q8_spec : {M : Type 1} → statement M
+jambharrow_quantize_block_q8_spec =
     tie.close (tie.spec (λ c κs. search rules) (λ c κs. search rules) returns)

@@ -7,6 +7,6 @@ use Rattle.exports.proofs.block_converters.jambharrow_q4_0_from_ggml.Tie as tie
 returns : tie.Need-returns
 returns c = handed _ _ _ _ c.number_of_lem.ensures c.before.before.before.q4-0-from-ggml.ensures
 
-pub jambharrow-q4-0-from-ggml-spec : {M : Type 1} → statement M
-jambharrow-q4-0-from-ggml-spec =
+pub jambharrow_q4_0_from_ggml_spec : {M : Type 1} → statement M
+jambharrow_q4_0_from_ggml_spec =
     tie.close (tie.spec (λ c κs. search rules) (λ c κs. search rules) (λ c. search rules) returns)

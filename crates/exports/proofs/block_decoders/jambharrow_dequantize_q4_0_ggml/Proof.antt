@@ -7,6 +7,6 @@ use Rattle.exports.proofs.block_decoders.jambharrow_dequantize_q4_0_ggml.Tie as 
 returns : tie.Need-returns
 returns c = handed _ _ _ _ c.number_of_lem.ensures c.before.before.before.dequantize-q4-0-ggml.ensures
 
-pub jambharrow-dequantize-q4-0-ggml-spec : {M : Type 1} → statement M
-jambharrow-dequantize-q4-0-ggml-spec =
+pub jambharrow_dequantize_q4_0_ggml_spec : {M : Type 1} → statement M
+jambharrow_dequantize_q4_0_ggml_spec =
     tie.close (tie.spec (λ c κs. search rules) (λ c κs. search rules) (λ c. search rules) returns)

@@ -7,6 +7,6 @@ use Rattle.exports.proofs.block_decoders.jambharrow_dequantize_q8_0.Tie as tie
 returns : tie.Need-returns
 returns c = handed _ _ _ _ c.number_of_lem.ensures c.before.before.before.dequantize-q8-0.ensures
 
-pub jambharrow-dequantize-q8-0-spec : {M : Type 1} → statement M
-jambharrow-dequantize-q8-0-spec =
+pub jambharrow_dequantize_q8_0_spec : {M : Type 1} → statement M
+jambharrow_dequantize_q8_0_spec =
     tie.close (tie.spec (λ c κs. search rules) (λ c κs. search rules) (λ c. search rules) returns)

@@ -8,6 +8,6 @@ use Rattle.exports.proofs.fixed_order_sums.jambharrow_canonical_dot_pub.Tie as t
 returns : tie.Need-returns
 returns c = cc
 
-pub jambharrow-canonical-dot-pub-spec : {M : Type 1} → statement M
-jambharrow-canonical-dot-pub-spec =
+pub jambharrow_canonical_dot_pub_spec : {M : Type 1} → statement M
+jambharrow_canonical_dot_pub_spec =
     tie.close (tie.spec (λ c κs. search rules) (λ c κs. search rules) returns)

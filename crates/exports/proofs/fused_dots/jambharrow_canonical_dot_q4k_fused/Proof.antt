@@ -9,6 +9,6 @@ canonical-dot-q4k-fused-requires c κs = search rules
 returns : tie.Need-returns
 returns c = cc
 
-pub jambharrow-canonical-dot-q4k-fused-spec : {M : Type 1} → statement M
-jambharrow-canonical-dot-q4k-fused-spec =
+pub jambharrow_canonical_dot_q4k_fused_spec : {M : Type 1} → statement M
+jambharrow_canonical_dot_q4k_fused_spec =
     tie.close (tie.spec canonical-dot-q4k-fused-requires (λ c κs. search rules) returns)

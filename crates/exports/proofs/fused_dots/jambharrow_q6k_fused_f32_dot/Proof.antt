@@ -9,6 +9,6 @@ q6k-fused-f32-dot-requires c κs = search rules
 returns : tie.Need-returns
 returns c = cc
 
-pub jambharrow-q6k-fused-f32-dot-spec : {M : Type 1} → statement M
-jambharrow-q6k-fused-f32-dot-spec =
+pub jambharrow_q6k_fused_f32_dot_spec : {M : Type 1} → statement M
+jambharrow_q6k_fused_f32_dot_spec =
     tie.close (tie.spec q6k-fused-f32-dot-requires (λ c κs. search rules) returns)

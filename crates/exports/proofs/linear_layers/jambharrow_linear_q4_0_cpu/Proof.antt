@@ -7,6 +7,6 @@ use Rattle.exports.proofs.linear_layers.jambharrow_linear_q4_0_cpu.Tie as tie
 returns : tie.Need-returns
 returns c = handed _ _ _ _ c.number_of_lem.ensures c.before.before.before.before.before.linear-q4-0-cpu.ensures
 
-pub jambharrow-linear-q4-0-cpu-spec : {M : Type 1} → statement M
-jambharrow-linear-q4-0-cpu-spec =
+pub jambharrow_linear_q4_0_cpu_spec : {M : Type 1} → statement M
+jambharrow_linear_q4_0_cpu_spec =
     tie.close (tie.spec (λ c κs. search rules) (λ c κs. search rules) (λ c. search rules) (λ c. search rules) returns)

@@ -3,5 +3,5 @@ use borrow.Author.Rules.{rules}
 use Rattle.fillin_answer.proofs.answers.behind_record.Statement.{statement}
 use Rattle.fillin_answer.proofs.answers.behind_record.Tie as tie
 
-pub behind-record-spec : {M : Type 1} → statement M
-behind-record-spec = tie.close (tie.spec (λ c. search rules) (λ c. search rules))
+pub behind_record_spec : {M : Type 1} → statement M
+behind_record_spec = tie.close (tie.spec (λ c. search rules) (λ c. search rules))

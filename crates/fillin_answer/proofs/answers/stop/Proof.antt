@@ -6,5 +6,5 @@ use Rattle.fillin_answer.proofs.answers.stop.Tie as tie
 returns : tie.Need-returns
 returns c = refl
 
-pub stop-spec : {M : Type 1} → statement M
-stop-spec = tie.close (tie.spec returns)
+pub stop_spec : {M : Type 1} → statement M
+stop_spec = tie.close (tie.spec returns)

@@ -18,8 +18,8 @@ returns c = tt
 returns-2 : tie.Need-returns-2 invariant-loop decreases-loop
 returns-2 c = tt
 
-pub answer-container-spec : {M : Type 1} → statement M
-answer-container-spec =
+pub answer_container_spec : {M : Type 1} → statement M
+answer_container_spec =
     tie.close
     (tie.spec
     invariant-loop

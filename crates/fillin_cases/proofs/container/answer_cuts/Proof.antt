@@ -15,8 +15,8 @@ slice-aggregate-answer-file c = simp length-take (omega arith)
 returns : tie.Need-returns invariant-loop decreases-loop
 returns c = tt
 
-pub answer-cuts-spec : {M : Type 1} → statement M
-answer-cuts-spec =
+pub answer_cuts_spec : {M : Type 1} → statement M
+answer_cuts_spec =
     tie.close
     (tie.spec
     invariant-loop

@@ -12,8 +12,8 @@ decreases-loop number file next₀ most₀ next most = 8 - most
 returns : tie.Need-returns invariant-loop decreases-loop
 returns c = tt
 
-pub answer-pieces-spec : {M : Type 1} → statement M
-answer-pieces-spec =
+pub answer_pieces_spec : {M : Type 1} → statement M
+answer_pieces_spec =
     tie.close
     (tie.spec
     invariant-loop

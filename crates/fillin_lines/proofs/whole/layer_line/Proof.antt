@@ -1,7 +1,7 @@
 -- `whole::layer_line` meets its contract. Assumes nothing.
 use mathlib.Core.List.{[], ◌∷◌, append_assoc}
 use native.Mathlib.Omega.{arith}
-use Rattle.fillin_lines.specs.Lines.{newline, layerLine}
+use Rattle.fillin_lines.specs.Lines.{newline, layer_line}
 use Rattle.fillin_text.specs.Text.{field}
 use Rattle.fillin_text.proofs.Laid.{Written, first, next, named}
 use borrow.Author.Rules.{rules}
@@ -9,7 +9,7 @@ use Rattle.fillin_lines.proofs.whole.layer_line.Statement.{statement}
 use Rattle.fillin_lines.proofs.whole.layer_line.Tie as tie
 
 returns : tie.Need-returns
-unfolding layerLine
+unfolding layer_line
 returns c =
     let p = c.before.before in
     let q = p.before.before.before.before.before in
@@ -21,11 +21,11 @@ returns c =
     let one = next (field args.format) word s.put-field.ensures.0 s.put-field.ensures.1.0 in
     let two = next (field args.in-feat) one r.put-field2.ensures.0 r.put-field2.ensures.1.0 in
     let three = next (field args.out-feat) two q.put-field3.ensures.0 q.put-field3.ensures.1.0 in
-    let whole : Written args.line.now (layerLine args.format args.in-feat args.out-feat) p.put2.new.0 p.put2.result = named (simp append_assoc) (next newline three p.put2.ensures.0 p.put2.ensures.1) in
+    let whole : Written args.line.now (layer_line args.format args.in-feat args.out-feat) p.put2.new.0 p.put2.result = named (simp append_assoc) (next newline three p.put2.ensures.0 p.put2.ensures.1) in
     (whole.holds, (whole.ends, omega (arith, p.put2.ensures.1, q.put-field3.ensures.1.1, r.put-field2.ensures.1.1, s.put-field.ensures.1.1, t.put.ensures.1)))
 
-pub layer-line-spec : {M : Type 1} → statement M
-layer-line-spec =
+pub layer_line_spec : {M : Type 1} → statement M
+layer_line_spec =
     tie.close
     (tie.spec
     (λ c. search rules)

@@ -22,8 +22,8 @@ returns c =
     let whole : Written args.line.now text p.put2.new.0 p.put2.result = named (simp append_assoc) (next newline two p.put2.ensures.0 p.put2.ensures.1) in
     (whole.holds, (whole.ends, omega (arith, p.put2.ensures.1, q.put-field2.ensures.1.1, r.put-field.ensures.1.1, s.put.ensures.1)))
 
-pub word-and-two-spec : {M : Type 1} → statement M
-word-and-two-spec =
+pub word_and_two_spec : {M : Type 1} → statement M
+word_and_two_spec =
     tie.close
     (tie.spec
     (λ c κs. search rules)

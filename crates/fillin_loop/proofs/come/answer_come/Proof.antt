@@ -5,10 +5,10 @@ use native.Mathlib.Omega.{arith}
 use borrow.Author.Rules.{rules}
 use mathlib.Core.List.{List}
 use lib.ListN.{length, take, drop, length-take, length-drop}
-use Rattle.frames.specs.Pieces.{nextIn}
+use Rattle.frames.specs.Pieces.{next_in}
 use Rattle.frames.specs.declared.frame.Next.TheVariants as next
-use Rattle.frames.proofs.Pieces.{next-within}
-use Rattle.fillin_loop.proofs.Turns.{Within, Going, rest-whole, all-turns, reached, waits, reached-waiting, ends, one-within, goes_on}
+use Rattle.frames.proofs.Pieces.{next_within}
+use Rattle.fillin_loop.proofs.Turns.{Within, Going, rest_whole, all_turns, reached, waits, reached_waiting, ends, one_within, goes_on}
 use Rattle.fillin_loop.proofs.come.answer_come.Statement.{statement}
 use Rattle.fillin_loop.proofs.come.answer_come.Tie as tie
 
@@ -24,12 +24,12 @@ loop-holds c = record {
     sound = c.before.before.before.requires.sound;
     on = λ e. let z : ◌≡◌ {A = ℕ} 0 1 = cc in omega arith;
     turns = omega arith;
-    bytes-in = omega arith;
+    bytes_in = omega arith;
     text_in = omega arith;
-    offset-in = omega arith;
-    count-in = omega arith;
+    offset_in = omega arith;
+    count_in = omega arith;
   };
-  weights-long = refl;
+  weights_long = refl;
   lines_long = refl;
   same = refl;
 }
@@ -39,66 +39,66 @@ next-record-requires c κs = tt
 
 -- the next record lies within what has come
 module _ (k : tie.After-next-record invariant-loop decreases-loop) where
-  abbrev at-loop : tie.At-loop invariant-loop decreases-loop
-  at-loop = k.before.before.before
+  abbrev at_loop : tie.At-loop invariant-loop decreases-loop
+  at_loop = k.before.before.before
 
   abbrev begun : tie.Start invariant-loop decreases-loop
-  begun = at-loop.before.before.before.before
+  begun = at_loop.before.before.before.before
 
   abbrev come : List ℕ
   come = begun.args.come.now
 
   abbrev from : ℕ
-  from = at-loop.loop.done.bytes
+  from = at_loop.loop.done.bytes
 
-  abbrev inv : Going come begun.args.ended begun.args.st begun.args.weights.now begun.args.lines.now at-loop.loop.weights at-loop.loop.lines at-loop.loop.done at-loop.loop.counter
-  inv = at-loop.loop.inv
+  abbrev inv : Going come begun.args.ended begun.args.st begun.args.weights.now begun.args.lines.now at_loop.loop.weights at_loop.loop.lines at_loop.loop.done at_loop.loop.counter
+  inv = at_loop.loop.inv
 
-  turn : at-loop.loop.counter < 64
+  turn : at_loop.loop.counter < 64
   turn = k.before.before.loop-test.taken
 
-  says : k.next-record.result ≡ nextIn (drop from come) begun.args.ended
-  says = k.next-record.ensures ∙ ap (λ (z : List ℕ). nextIn z begun.args.ended) (rest-whole come from)
+  says : k.next-record.result ≡ next_in (drop from come) begun.args.ended
+  says = k.next-record.ensures ∙ ap (λ (z : List ℕ). next_in z begun.args.ended) (rest_whole come from)
 
   size_in : (n : ℕ) → k.next-record.result ≡ next.Bytes n → from + n ≤ length come
-  size_in n e = omega (arith, simp length-drop at (next-within (drop from come) begun.args.ended n (sym says ∙ e)).0, inv.within.bytes-in)
+  size_in n e = omega (arith, simp length-drop at (next_within (drop from come) begun.args.ended n (sym says ∙ e)).0, inv.within.bytes_in)
 
-  room : 11008 ≤ length at-loop.loop.lines
+  room : 11008 ≤ length at_loop.loop.lines
   room = omega (arith, inv.lines_long, begun.pre.lines_fit)
 
 returns : tie.Need-returns invariant-loop decreases-loop
 returns c =
     let k = c.before.before.before in
     let more = sym (says k) ∙ c.before.enum_told.given.1 in
-    (waits (inv k) (turn k) more, reached-waiting (inv k) (turn k) more _ (room k))
+    (waits (inv k) (turn k) more, reached_waiting (inv k) (turn k) more _ (room k))
 
 add-end : tie.Need-overflow-add-end invariant-loop decreases-loop
 add-end c =
     let k = c.before.before.before in
-    omega (arith, size_in k _ c.before.size.given.1, (begun k).requires.offset-fits)
+    omega (arith, size_in k _ c.before.size.given.1, (begun k).requires.offset_fits)
 
 part_end : tie.Need-slice-bounds-answer-one-end invariant-loop decreases-loop
 part_end c = omega (arith, size_in c.before.before.before _ c.before.size.given.1)
 
 -- the record's bytes are some of those that came
-record-in : (come : List ℕ) (from n : ℕ) → from ≤ length come → from + length (take (from + n - from) (drop from come)) ≤ length come
-record-in come from n h = rw (length-take, length-drop) (omega arith)
+record_in : (come : List ℕ) (from n : ℕ) → from ≤ length come → from + length (take (from + n - from) (drop from come)) ≤ length come
+record_in come from n h = rw (length-take, length-drop) (omega arith)
 
 answer-one-requires : tie.Need-answer-one-requires invariant-loop decreases-loop
 answer-one-requires c κs =
     let k = c.before.before.before.before.before.before in
     let v = (inv k).within in
-    let few = record-in (come k) (from k) c.before.before.before.before.size.given.0.0 v.bytes-in in
+    let few = record_in (come k) (from k) c.before.before.before.before.size.given.0.0 v.bytes_in in
     let p = (begun k).requires in (
       record {
         sound = v.sound;
-        weights-fit = omega (arith, (inv k).weights-long, p.weights-fit);
-        line-fits = omega arith;
-        offset-fits = omega (arith, few, v.offset-in, p.offset-fits);
-        count_fits = omega (arith, v.count-in, p.count_fits, turn k);
+        weights_fit = omega (arith, (inv k).weights_long, p.weights_fit);
+        line_fits = omega arith;
+        offset_fits = omega (arith, few, v.offset_in, p.offset_fits);
+        count_fits = omega (arith, v.count_in, p.count_fits, turn k);
       },
       omega (arith, v.text_in, turn k, room k),
-      omega (arith, few, p.offset-fits),
+      omega (arith, few, p.offset_fits),
     )
 
 -- a turn that answers a record
@@ -112,14 +112,14 @@ module _ (a : tie.After-answer-one invariant-loop decreases-loop) where
   abbrev bytes : List ℕ
   bytes = take (from asked + size - from asked) (drop (from asked) (come asked))
 
-  whole : nextIn (drop (from asked) (come asked)) (begun asked).args.ended ≡ next.Bytes size
+  whole : next_in (drop (from asked) (come asked)) (begun asked).args.ended ≡ next.Bytes size
   whole = sym (says asked) ∙ a.before.before.before.before.before.size.given.1
 
   its_own : bytes ≡ take size (drop (from asked) (come asked))
   its_own = let e : from asked + size - from asked ≡ size = omega arith in ap (λ (m : ℕ). take m (drop (from asked) (come asked))) e
 
-  reaches : Within (begun asked).args.st (come asked) a.answer-one.result ((at-loop asked).loop.counter + 1)
-  reaches = one-within (inv asked) (turn asked) size bytes a.answer-one.result _ _ whole its_own a.answer-one.ensures.0 a.answer-one.ensures.1.0 a.answer-one.ensures.1.1
+  reaches : Within (begun asked).args.st (come asked) a.answer-one.result ((at_loop asked).loop.counter + 1)
+  reaches = one_within (inv asked) (turn asked) size bytes a.answer-one.result _ _ whole its_own a.answer-one.ensures.0 a.answer-one.ensures.1.0 a.answer-one.ensures.1.1
 
 returns-2 : tie.Need-returns-2 invariant-loop decreases-loop
 returns-2 c =
@@ -140,22 +140,22 @@ loop-less c = omega (arith, turn (asked c.before.before.before.before.before.bef
 returns-3 : tie.Need-returns-3 invariant-loop decreases-loop
 returns-3 c =
     let g = c.before.loop.invariant in
-    (all-turns g c.loop-test.false, reached g.within _ (omega (arith, g.lines_long, c.before.before.before.before.before.requires.lines_fit)))
+    (all_turns g c.loop-test.false, reached g.within _ (omega (arith, g.lines_long, c.before.before.before.before.before.requires.lines_fit)))
 
-pub answer-come-spec : {M : Type 1} → statement M
-answer-come-spec =
+pub answer_come_spec : {M : Type 1} → statement M
+answer_come_spec =
     tie.close
     (tie.spec
     invariant-loop
     decreases-loop
     loop-holds
-    (λ c. omega (arith, c.before.loop.invariant.within.bytes-in))
-    (λ c. omega (arith, c.before.loop.invariant.within.bytes-in))
-    (λ c. omega (arith, c.before.loop.invariant.within.bytes-in))
+    (λ c. omega (arith, c.before.loop.invariant.within.bytes_in))
+    (λ c. omega (arith, c.before.loop.invariant.within.bytes_in))
+    (λ c. omega (arith, c.before.loop.invariant.within.bytes_in))
     next-record-requires
     (λ c. search rules)
     (λ c. search rules)
-    (λ c. (inv c.before.before.before).weights-long)
+    (λ c. (inv c.before.before.before).weights_long)
     (λ c. (inv c.before.before.before).lines_long)
     returns
     add-end
@@ -164,12 +164,12 @@ answer-come-spec =
     part_end
     answer-one-requires
     (λ c κs. search rules)
-    (λ c. let a = c.before.before.before.before.before.before in a.answer-one.auto.1.1.0 ∙ (inv (asked a)).weights-long)
+    (λ c. let a = c.before.before.before.before.before.before in a.answer-one.auto.1.1.0 ∙ (inv (asked a)).weights_long)
     (λ c. let a = c.before.before.before.before.before.before in a.answer-one.auto.1.1.1.0 ∙ (inv (asked a)).lines_long)
     returns-2
     turn-fits
     loop-less
     loop-again
-    (λ c. c.before.loop.invariant.weights-long)
+    (λ c. c.before.loop.invariant.weights_long)
     (λ c. c.before.loop.invariant.lines_long)
     returns-3)

@@ -26,8 +26,8 @@ returns c =
       (e.1.1.0, omega (arith, few a)),
     )
 
-pub answer-one-spec : {M : Type 1} → statement M
-answer-one-spec =
+pub answer_one_spec : {M : Type 1} → statement M
+answer_one_spec =
     tie.close
     (tie.spec
     (λ c. search rules)

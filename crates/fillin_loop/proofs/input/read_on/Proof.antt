@@ -13,8 +13,8 @@ returns c =
     let a = s.args in
     reads_on a.buf.now a.unread m.new.0 s.requires.0 m.ensures k.read_Some.new.1.0 _ _ refl k.read_Some.result.bytes refl refl k.read_Some.ensures
 
-pub read-on-spec : {M : Type 1} → statement M
-read-on-spec =
+pub read_on_spec : {M : Type 1} → statement M
+read_on_spec =
     tie.close
     (tie.spec
     (λ c κs. search rules)

@@ -1,18 +1,18 @@
 -- `fillin_text::hex_digit` meets its contract. Assumes nothing.
 use borrow.Author.Rules.{rules}
 use borrow.Author.Tests.{lt-ltb, le-ltb}
-use Rattle.fillin_text.specs.Text.{hexDigit}
+use Rattle.fillin_text.specs.Text.{hex_digit}
 use Rattle.fillin_text.proofs.text.hex_digit.Statement.{statement}
 use Rattle.fillin_text.proofs.text.hex_digit.Tie as tie
 
 returns : tie.Need-returns
-unfolding hexDigit
+unfolding hex_digit
 returns c = simp (lt-ltb _ _ c.if1.true)
 
 returns-2 : tie.Need-returns-2
-unfolding hexDigit
+unfolding hex_digit
 returns-2 c = simp (le-ltb _ _ c.if1.false)
 
-pub hex-digit-spec : {M : Type 1} → statement M
-hex-digit-spec =
+pub hex_digit_spec : {M : Type 1} → statement M
+hex_digit_spec =
     tie.close (tie.spec (λ c. search rules) (λ c. search rules) (λ c. search rules) (λ c. search rules) returns returns-2)

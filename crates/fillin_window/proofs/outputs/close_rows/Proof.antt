@@ -7,18 +7,18 @@ use borrow.Author.Rules.{rules}
 use mathlib.Core.List.{List}
 use lib.ListN.{length, set, length-set}
 use lib.Ieee.{Float, nan}
-use Rattle.refusals.specs.Said.{Said, done, outcomeSays}
-use Rattle.refusals.proofs.Laws.{never-refused}
+use Rattle.refusals.specs.Said.{Said, done, outcome_says}
+use Rattle.refusals.proofs.Laws.{never_refused}
 use Rattle.memory.specs.Lists.{filled}
 use Rattle.memory.proofs.Filled.{filled_none, filled_more}
 use Rattle.stepped_shape.specs.Layer.{memory}
-use Rattle.stepped_pieces.specs.Pieces.{rowMet}
+use Rattle.stepped_pieces.specs.Pieces.{row_met}
 use Rattle.fillin_window.proofs.Rows.{closes}
 use Rattle.fillin_window.proofs.outputs.close_rows.Statement.{statement}
 use Rattle.fillin_window.proofs.outputs.close_rows.Tie as tie
 
 abbrev invariant-loop : tie.invariant-loop
-invariant-loop l slots marks y₀ rows row₀ y row = (y ≡ filled (rowMet l slots) y₀ row) × (row ≤ rows) × (length y ≡ length y₀)
+invariant-loop l slots marks y₀ rows row₀ y row = (y ≡ filled (row_met l slots) y₀ row) × (row ≤ rows) × (length y ≡ length y₀)
 
 abbrev decreases-loop : tie.decreases-loop
 decreases-loop l slots marks y₀ rows row₀ y row = rows - row
@@ -34,27 +34,27 @@ module _ (c : tie.After-close invariant-loop decreases-loop) where
   turn :
       (let l = c.before.before.before.loop in
       let a = c.before.before.before.before.before.before.before.args in
-      ◌≡◌ {A = Said (Unit {0}) × List Float} (outcomeSays c.close.result, c.close.new.1.1.1.1.0) (done, set l.y l.row (rowMet a.l a.slots.now l.row)))
+      ◌≡◌ {A = Said (Unit {0}) × List Float} (outcome_says c.close.result, c.close.new.1.1.1.1.0) (done, set l.y l.row (row_met a.l a.slots.now l.row)))
   turn =
       let l = c.before.before.before.loop in
       let t = c.before.before.before.before.before.before.before in
       let a = t.args in
       c.close.ensures ∙ closes a.l (memory a.slots.now a.marks.now) l.y l.row t.requires.0 (omega (arith, l.invariant.2, t.requires.1)) c.before.before.loop-test.true
 
-  closed : outcomeSays c.close.result ≡ done
+  closed : outcome_says c.close.result ≡ done
   closed = ap (λ (p : Said (Unit {0}) × List Float). p.0) turn
 
   filled_on :
       (let l = c.before.before.before.loop in
       let a = c.before.before.before.before.before.before.before.args in
-      c.close.new.1.1.1.1.0 ≡ set l.y l.row (rowMet a.l a.slots.now l.row))
+      c.close.new.1.1.1.1.0 ≡ set l.y l.row (row_met a.l a.slots.now l.row))
   filled_on = ap (λ (p : Said (Unit {0}) × List Float). p.1) turn
 
 same_length : tie.Need-same-length invariant-loop decreases-loop
-same_length c = absurd (never-refused _ _ (closed c.before.before.before.before) c.enum-told2.given.1)
+same_length c = absurd (never_refused _ _ (closed c.before.before.before.before) c.enum-told2.given.1)
 
 returns : tie.Need-returns invariant-loop decreases-loop
-returns c = absurd (never-refused _ _ (closed c.before.before.before.before) c.enum-told2.given.1)
+returns c = absurd (never_refused _ _ (closed c.before.before.before.before) c.enum-told2.given.1)
 
 loop-again : tie.Need-loop-preserved invariant-loop decreases-loop
 loop-again c =
@@ -63,7 +63,7 @@ loop-again c =
     let a = d.before.before.before.before.before.before.before.args in
     let within : l.row < length a.y.now = omega (arith, d.before.before.loop-test.true, d.before.before.before.before.before.before.before.requires.1) in
     let e = filled_on d in (
-      e ∙ ap (λ (ys : List Float). set ys l.row (rowMet a.l a.slots.now l.row)) l.invariant.0 ∙ filled_more (rowMet a.l a.slots.now) a.y.now l.row nan within,
+      e ∙ ap (λ (ys : List Float). set ys l.row (row_met a.l a.slots.now l.row)) l.invariant.0 ∙ filled_more (row_met a.l a.slots.now) a.y.now l.row nan within,
       omega arith,
       ap length e ∙ length-set l.y l.row _ ∙ l.invariant.2,
     )
@@ -78,5 +78,5 @@ returns-2 c =
     let e : l.row ≡ n = omega (arith, l.invariant.1, c.loop-test) in
     (refl, l.invariant.0 ∙ ap (filled _ _) e)
 
-pub close-rows-spec : {M : Type 1} → statement M
-close-rows-spec = tie.close (tie.spec invariant-loop decreases-loop loop-holds close-requires (λ c. search rules) (λ c. search rules) same_length returns (λ c. omega arith) (λ c. omega arith) loop-again same-length-2 returns-2)
+pub close_rows_spec : {M : Type 1} → statement M
+close_rows_spec = tie.close (tie.spec invariant-loop decreases-loop loop-holds close-requires (λ c. search rules) (λ c. search rules) same_length returns (λ c. omega arith) (λ c. omega arith) loop-again same-length-2 returns-2)

@@ -8,9 +8,9 @@ use lib.ListN.{length, take, drop, length-append}
 use lib.Seq.{length-take-le, take_at}
 use lib.Ieee.{Float}
 use Rattle.memory.specs.Lists.{table}
-use Rattle.memory.proofs.Filled.{length-table}
-use Rattle.records.specs.Kinds.{readingAt}
-use Rattle.fillin_window.specs.Windows.{readingsOf, outputsOf}
+use Rattle.memory.proofs.Filled.{length_table}
+use Rattle.records.specs.Kinds.{reading_at}
+use Rattle.fillin_window.specs.Windows.{readings_of, outputs_of}
 use Rattle.fillin_window.proofs.outputs.window_outputs.Statement.{statement}
 use Rattle.fillin_window.proofs.outputs.window_outputs.Tie as tie
 
@@ -34,11 +34,11 @@ module _ (c : tie.After-readings) where
   abbrev inputs : ℕ
   inputs = start.args.l.in_feat
 
-  shown : c.readings.new.1.0 ≡ readingsOf start.args.bytes.now start.args.l
-  shown = c.readings.ensures ∙ ap (table (readingAt start.args.bytes.now)) (lent c.before)
+  shown : c.readings.new.1.0 ≡ readings_of start.args.bytes.now start.args.l
+  shown = c.readings.ensures ∙ ap (table (reading_at start.args.bytes.now)) (lent c.before)
 
   as_many : length c.readings.new.1.0 ≡ inputs
-  as_many = ap length shown ∙ length-table _ inputs
+  as_many = ap length shown ∙ length_table _ inputs
 
   front : take inputs (c.readings.new.1.0 ++ drop inputs c.before.before.readings-room.result) ≡ c.readings.new.1.0
   front = take_at c.readings.new.1.0 (drop inputs c.before.before.readings-room.result) inputs as_many
@@ -61,8 +61,8 @@ returns c =
     let d = c.before.before.before.before.before.before in
     let t = start d in
     let e = c.before.before.fill-outputs.ensures in
-    (e.0, e.1 ∙ ap (λ (x : List Float). outputsOf t.args.l t.args.w.now x ++ drop t.args.l.out_feat t.args.y.now) (front d ∙ shown d))
+    (e.0, e.1 ∙ ap (λ (x : List Float). outputs_of t.args.l t.args.w.now x ++ drop t.args.l.out_feat t.args.y.now) (front d ∙ shown d))
 
-pub window-outputs-spec : {M : Type 1} → statement M
-window-outputs-spec =
+pub window_outputs_spec : {M : Type 1} → statement M
+window_outputs_spec =
     tie.close (tie.spec (λ c κs. search rules) (λ c. search rules) slice-aggregate-readings readings-requires array-share-prefix-x slice-aggregate-fill-outputs fill-outputs-requires (λ c. search rules) returns)

@@ -5,8 +5,8 @@ use borrow.Author.Rules.{rules}
 use lib.ListN.{length}
 use Rattle.frames.specs.declared.frame.Next.TheVariants.{Bytes}
 use Rattle.frames.specs.Frame.{size_of}
-use Rattle.frames.specs.Pieces.{nextIn}
-use Rattle.frames.proofs.Pieces.{next-whole, next-left, next_more}
+use Rattle.frames.specs.Pieces.{next_in}
+use Rattle.frames.proofs.Pieces.{next_whole, next_left, next_more}
 use Rattle.frames.proofs.frame.next_record.Statement.{statement}
 use Rattle.frames.proofs.frame.next_record.Tie as tie
 
@@ -14,7 +14,7 @@ returns : tie.Need-returns
 returns c =
     let size = c.before.type_size.ensures.0 in
     let rest = c.before.before.before.args.rest.now in
-    ap Bytes size ∙ sym (next-whole rest _ (subst (λ (n : ℕ). n ≤ length rest) size c.if1.true))
+    ap Bytes size ∙ sym (next_whole rest _ (subst (λ (n : ℕ). n ≤ length rest) size c.if1.true))
 
 -- a record that is not all there
 module _ (c : tie.Else1) where
@@ -28,12 +28,12 @@ module _ (c : tie.Else1) where
 returns-2 : tie.Need-returns-2
 returns-2 c =
     let rest = c.before.before.before.before.args.rest.now in
-    sym (next-left rest (short c.before)) ∙ ap (nextIn rest) (sym c.if2.true)
+    sym (next_left rest (short c.before)) ∙ ap (next_in rest) (sym c.if2.true)
 
 returns-3 : tie.Need-returns-3
 returns-3 c =
     let rest = c.before.before.before.before.args.rest.now in
-    sym (next_more rest (short c.before)) ∙ ap (nextIn rest) (sym c.if2.false)
+    sym (next_more rest (short c.before)) ∙ ap (next_in rest) (sym c.if2.false)
 
-pub next-record-spec : {M : Type 1} → statement M
-next-record-spec = tie.close (tie.spec (λ c κs. search rules) returns returns-2 returns-3)
+pub next_record_spec : {M : Type 1} → statement M
+next_record_spec = tie.close (tie.spec (λ c κs. search rules) returns returns-2 returns-3)

@@ -19,8 +19,8 @@ returns c =
     let s = c.before.before.args.bits / 2147483648 * 32768 in
     cc (ap (λ (m : ℕ). s + m) c.before.narrowed-magnitude.ensures.0)
 
-pub f32-to-f16-spec : {M : Type 1} → statement M
-f32-to-f16-spec =
+pub f32_to_f16_spec : {M : Type 1} → statement M
+f32_to_f16_spec =
     tie.close
     (tie.spec
     (λ c. omega arith)

@@ -19,8 +19,8 @@ add-result c = omega arith
 returns-3 : tie.Need-returns-3
 returns-3 c = (rw (lt-leb _ _ c.before.if1.false, lt-leb _ _ c.if2.false), omega arith)
 
-pub narrowed-magnitude-spec : {M : Type 1} → statement M
-narrowed-magnitude-spec =
+pub narrowed_magnitude_spec : {M : Type 1} → statement M
+narrowed_magnitude_spec =
     tie.close
     (tie.spec
     returns

@@ -37,5 +37,5 @@ returns c =
     let h : k + (113 - k) ≡ 113 = omega (arith, there c.before) in
     c.normal.ensures ∙ ap (λ (z : ℕ). round binary32 s (z * 2 ^ (113 - k)) (2 ^ 137)) (kept c.before) ∙ shifted s a k (113 - k) h
 
-pub subnormal-spec : {M : Type 1} → statement M
-subnormal-spec = tie.close (tie.spec sub-up sub-normal shl-normal normal-requires returns)
+pub subnormal_spec : {M : Type 1} → statement M
+subnormal_spec = tie.close (tie.spec sub-up sub-normal shl-normal normal-requires returns)

@@ -24,5 +24,5 @@ float-to-bits-result c = number c.before.args.x c.if1.false
 returns-2 : tie.Need-returns-2
 returns-2 c = search rules
 
-pub bits-of-spec : {M : Type 1} → statement M
-bits-of-spec = tie.close (tie.spec returns float-to-bits-result returns-2)
+pub bits_of_spec : {M : Type 1} → statement M
+bits_of_spec = tie.close (tie.spec returns float-to-bits-result returns-2)

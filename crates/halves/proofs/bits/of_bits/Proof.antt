@@ -12,18 +12,18 @@ use Rattle.halves.proofs.Patterns.{no_nan}
 use Rattle.halves.proofs.bits.of_bits.Statement.{statement}
 use Rattle.halves.proofs.bits.of_bits.Tie as tie
 
-is-nan : (x : Float) → is_nan x ≡ true → x ≡ nan
+is_nan_lem : (x : Float) → is_nan x ≡ true → x ≡ nan
 unfolding is_nan
-is-nan nan e = refl
-is-nan (inf s) e = absurd (subst (λ (t : Bool). T t) (sym e) tt)
-is-nan (fin s m d) e = absurd (subst (λ (t : Bool). T t) (sym e) tt)
+is_nan_lem nan e = refl
+is_nan_lem (inf s) e = absurd (subst (λ (t : Bool). T t) (sym e) tt)
+is_nan_lem (fin s m d) e = absurd (subst (λ (t : Bool). T t) (sym e) tt)
 
 -- a pattern above that of the infinities, its sign aside, is a NaN's
-pub above-infinity : (b : ℕ) → 2139095040 < b % 2147483648 → of_bits binary32 b ≡ nan
-above-infinity b h = is-nan (of_bits binary32 b) (sym (nan_bits_is binary32 b) ∙ nan_bits_above binary32 b ∙ lt-ltb 2139095040 (b % 2147483648) h)
+pub above_infinity : (b : ℕ) → 2139095040 < b % 2147483648 → of_bits binary32 b ≡ nan
+above_infinity b h = is_nan_lem (of_bits binary32 b) (sym (nan_bits_is binary32 b) ∙ nan_bits_above binary32 b ∙ lt-ltb 2139095040 (b % 2147483648) h)
 
 returns : tie.Need-returns
-returns c = no_number ∙ sym (above-infinity c.before.args.bits c.if1.true)
+returns c = no_number ∙ sym (above_infinity c.before.args.bits c.if1.true)
 
 float-from-bits-result : tie.Need-float-from-bits-result
 float-from-bits-result c = no_nan c.before.args.bits c.if1.false
@@ -31,5 +31,5 @@ float-from-bits-result c = no_nan c.before.args.bits c.if1.false
 returns-2 : tie.Need-returns-2
 returns-2 c = search rules
 
-pub of-bits-spec : {M : Type 1} → statement M
-of-bits-spec = tie.close (tie.spec returns float-from-bits-result returns-2)
+pub of_bits_spec : {M : Type 1} → statement M
+of_bits_spec = tie.close (tie.spec returns float-from-bits-result returns-2)

@@ -4,20 +4,20 @@ use Prim.Native.Nat.{ℕ, ◌+◌, ◌-◌, ◌*◌, ◌/◌, ◌%◌, ◌<◌}
 use lib.ListN.{get_or, replicate}
 use native.Mathlib.Omega.{arith}
 use Rattle.layouts.specs.Of32.{nibble}
-use Rattle.layouts.specs.K.{quantQ4K}
-use Rattle.k_quants.proofs.Eight.{Streamed, streamed-none, streamed-more, streamed-all}
-use Rattle.layouts.proofs.Quants.{q4k-at}
+use Rattle.layouts.specs.K.{quant_q4k}
+use Rattle.k_quants.proofs.Eight.{Streamed, streamed_none, streamed_more, streamed_all}
+use Rattle.layouts.proofs.Quants.{q4k_at}
 use Rattle.k_quants.proofs.k.quants_q4k.Statement.{statement}
 use Rattle.k_quants.proofs.k.quants_q4k.Tie as tie
 
 abbrev invariant-loop : tie.invariant-loop
-invariant-loop block q₀ l₀ q l = Streamed (quantQ4K block) 0 q l
+invariant-loop block q₀ l₀ q l = Streamed (quant_q4k block) 0 q l
 
 abbrev decreases-loop : tie.decreases-loop
 decreases-loop block q₀ l₀ q l = 32 - l
 
 loop-holds : tie.Need-loop-init invariant-loop decreases-loop
-loop-holds c = streamed-none (quantQ4K c.args.block.now) 0 (replicate 256 0) refl
+loop-holds c = streamed_none (quant_q4k c.args.block.now) 0 (replicate 256 0) refl
 
 loop-again : tie.Need-loop-preserved invariant-loop decreases-loop
 loop-again c =
@@ -25,8 +25,8 @@ loop-again c =
     let bs = d.before.args.block.now in
     let l = d.loop.l in
     let h : l < 32 = c.before.before.before.before.loop-test.true in
-    let at : (j p k : ℕ) → p ≡ 32 * j + l → k ≡ 16 + (32 * (j / 2) + l) → nibble (get_or bs k 0) (j % 2) ≡ quantQ4K bs p = λ j p k. q4k-at bs j l p k h in
-    streamed-more (quantQ4K bs) 0 d.loop.q l _ _ _ _ _ _ _ _ h
+    let at : (j p k : ℕ) → p ≡ 32 * j + l → k ≡ 16 + (32 * (j / 2) + l) → nibble (get_or bs k 0) (j % 2) ≡ quant_q4k bs p = λ j p k. q4k_at bs j l p k h in
+    streamed_more (quant_q4k bs) 0 d.loop.q l _ _ _ _ _ _ _ _ h
     (at 0 l (16 + l) (omega arith) (omega arith))
     (at 1 (32 + l) (16 + l) (omega arith) (omega arith))
     (at 2 (64 + l) (48 + l) (omega arith) (omega arith))
@@ -38,10 +38,10 @@ loop-again c =
     d.loop.invariant
 
 returns : tie.Need-returns invariant-loop decreases-loop
-returns c = let l = c.before.loop in streamed-all (quantQ4K c.before.before.args.block.now) 0 l.q l.l c.loop-test.false l.invariant
+returns c = let l = c.before.loop in streamed_all (quant_q4k c.before.before.args.block.now) 0 l.q l.l c.loop-test.false l.invariant
 
-pub quants-q4k-spec : {M : Type 1} → statement M
-quants-q4k-spec =
+pub quants_q4k_spec : {M : Type 1} → statement M
+quants_q4k_spec =
     tie.close
     (tie.spec
     invariant-loop

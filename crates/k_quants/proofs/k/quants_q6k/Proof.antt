@@ -3,11 +3,11 @@ use mathlib.Core.Path.{◌≡◌, refl, ◌∙◌}
 use Prim.Native.Nat.{ℕ, ◌+◌, ◌-◌, ◌*◌, ◌/◌, ◌%◌, ◌<◌}
 use lib.IntN.{pos, ◌-ℤ◌}
 use lib.ListN.{get_or, replicate}
-use Rattle.numbers.proofs.Signed.{byte-read}
+use Rattle.numbers.proofs.Signed.{byte_read_lem}
 use native.Mathlib.Omega.{arith}
-use Rattle.layouts.specs.K.{quantQ6K}
-use Rattle.k_quants.proofs.Eight.{Streamed, streamed-none, streamed-more, streamed-all}
-use Rattle.layouts.proofs.Quants.{q6k-at}
+use Rattle.layouts.specs.K.{quant_q6k}
+use Rattle.k_quants.proofs.Eight.{Streamed, streamed_none, streamed_more, streamed_all}
+use Rattle.layouts.proofs.Quants.{q6k_at}
 use Rattle.k_quants.proofs.k.quants_q6k.Statement.{statement}
 use Rattle.k_quants.proofs.k.quants_q6k.Tie as tie
 
@@ -16,13 +16,13 @@ first : (n h : ℕ) → pos (n + 16 * (h % 4)) -ℤ pos 32 ≡ pos (n + 16 * (h 
 first n h = let e : h / 1 ≡ h = omega arith in rw e
 
 abbrev invariant-loop : tie.invariant-loop
-invariant-loop block q₀ l₀ q l = Streamed (quantQ6K block) (pos 0) q l
+invariant-loop block q₀ l₀ q l = Streamed (quant_q6k block) (pos 0) q l
 
 abbrev decreases-loop : tie.decreases-loop
 decreases-loop block q₀ l₀ q l = 32 - l
 
 loop-holds : tie.Need-loop-init invariant-loop decreases-loop
-loop-holds c = streamed-none (quantQ6K c.before.args.block.now) (pos 0) (replicate 256 (pos 0)) refl
+loop-holds c = streamed_none (quant_q6k c.before.args.block.now) (pos 0) (replicate 256 (pos 0)) refl
 
 six-bits-requires-3 : tie.Need-six-bits-requires-3 invariant-loop decreases-loop
 six-bits-requires-3 c κs = omega (arith, c.before.before.shared-slice-known7.given c.before.before.before.before.before.before.before.before.before.loop.l)
@@ -50,22 +50,22 @@ loop-again c =
     let s₆ = c.before.before.six-bits6 in
     let s₇ = c.before.six-bits7 in
     let s₈ = c.six-bits8 in
-    streamed-more (quantQ6K bs) (pos 0) m.loop.q l _ _ _ _ _ _ _ _ k
-    (byte-read s₁.type-inv (s₁.ensures ∙ first (get_or bs l 0 % 16) (get_or bs (128 + l) 0)) (q6k-at bs 0 0 l l l (128 + l) (omega arith) k (omega arith) (omega arith) (omega arith)))
-    (byte-read s₂.type-inv s₂.ensures (q6k-at bs 0 1 l (32 + l) (32 + l) (128 + l) (omega arith) k (omega arith) (omega arith) (omega arith)))
-    (byte-read s₃.type-inv s₃.ensures (q6k-at bs 0 2 l (64 + l) l (128 + l) (omega arith) k (omega arith) (omega arith) (omega arith)))
-    (byte-read s₄.type-inv s₄.ensures (q6k-at bs 0 3 l (96 + l) (32 + l) (128 + l) (omega arith) k (omega arith) (omega arith) (omega arith)))
-    (byte-read s₅.type-inv (s₅.ensures ∙ first (get_or bs (64 + l) 0 % 16) (get_or bs (160 + l) 0)) (q6k-at bs 1 0 l (128 + l) (64 + l) (160 + l) (omega arith) k (omega arith) (omega arith) (omega arith)))
-    (byte-read s₆.type-inv s₆.ensures (q6k-at bs 1 1 l (160 + l) (96 + l) (160 + l) (omega arith) k (omega arith) (omega arith) (omega arith)))
-    (byte-read s₇.type-inv s₇.ensures (q6k-at bs 1 2 l (192 + l) (64 + l) (160 + l) (omega arith) k (omega arith) (omega arith) (omega arith)))
-    (byte-read s₈.type-inv s₈.ensures (q6k-at bs 1 3 l (224 + l) (96 + l) (160 + l) (omega arith) k (omega arith) (omega arith) (omega arith)))
+    streamed_more (quant_q6k bs) (pos 0) m.loop.q l _ _ _ _ _ _ _ _ k
+    (byte_read_lem s₁.type-inv (s₁.ensures ∙ first (get_or bs l 0 % 16) (get_or bs (128 + l) 0)) (q6k_at bs 0 0 l l l (128 + l) (omega arith) k (omega arith) (omega arith) (omega arith)))
+    (byte_read_lem s₂.type-inv s₂.ensures (q6k_at bs 0 1 l (32 + l) (32 + l) (128 + l) (omega arith) k (omega arith) (omega arith) (omega arith)))
+    (byte_read_lem s₃.type-inv s₃.ensures (q6k_at bs 0 2 l (64 + l) l (128 + l) (omega arith) k (omega arith) (omega arith) (omega arith)))
+    (byte_read_lem s₄.type-inv s₄.ensures (q6k_at bs 0 3 l (96 + l) (32 + l) (128 + l) (omega arith) k (omega arith) (omega arith) (omega arith)))
+    (byte_read_lem s₅.type-inv (s₅.ensures ∙ first (get_or bs (64 + l) 0 % 16) (get_or bs (160 + l) 0)) (q6k_at bs 1 0 l (128 + l) (64 + l) (160 + l) (omega arith) k (omega arith) (omega arith) (omega arith)))
+    (byte_read_lem s₆.type-inv s₆.ensures (q6k_at bs 1 1 l (160 + l) (96 + l) (160 + l) (omega arith) k (omega arith) (omega arith) (omega arith)))
+    (byte_read_lem s₇.type-inv s₇.ensures (q6k_at bs 1 2 l (192 + l) (64 + l) (160 + l) (omega arith) k (omega arith) (omega arith) (omega arith)))
+    (byte_read_lem s₈.type-inv s₈.ensures (q6k_at bs 1 3 l (224 + l) (96 + l) (160 + l) (omega arith) k (omega arith) (omega arith) (omega arith)))
     m.loop.invariant
 
 returns : tie.Need-returns invariant-loop decreases-loop
-returns c = let l = c.before.loop in streamed-all (quantQ6K c.before.before.before.args.block.now) (pos 0) l.q l.l c.loop-test.false l.invariant
+returns c = let l = c.before.loop in streamed_all (quant_q6k c.before.before.before.args.block.now) (pos 0) l.q l.l c.loop-test.false l.invariant
 
-pub quants-q6k-spec : {M : Type 1} → statement M
-quants-q6k-spec =
+pub quants_q6k_spec : {M : Type 1} → statement M
+quants_q6k_spec =
     tie.close
     (tie.spec
     invariant-loop

@@ -1,20 +1,20 @@
 -- `cpu::cpu_layer` meets its contract: a refusal, or every output. Assumes nothing.
 use native.Mathlib.Omega.{arith}
 use borrow.Author.Rules.{rules}
-use Rattle.refusals.proofs.Laws.{check-passed, refused-out}
-use Rattle.layers_cpu.specs.Says.{cpuSays}
+use Rattle.refusals.proofs.Laws.{check_passed, refused_out}
+use Rattle.layers_cpu.specs.Says.{cpu_says}
 use Rattle.layers_cpu.proofs.cpu.cpu_layer.Statement.{statement}
 use Rattle.layers_cpu.proofs.cpu.cpu_layer.Tie as tie
 
 returns : tie.Need-returns
-unfolding cpuSays
-returns c = refused-out _ _ c.before.before.before.cpu-refusal.ensures c.before.checked.given.1
+unfolding cpu_says
+returns c = refused_out _ _ c.before.before.before.cpu-refusal.ensures c.before.checked.given.1
 
 all-columns-requires : tie.Need-all-columns-requires
-all-columns-requires c κs = check-passed c.before.before.before.before.cpu-refusal.ensures c.before.before.enum_told.given.1
+all-columns-requires c κs = check_passed c.before.before.before.before.cpu-refusal.ensures c.before.before.enum_told.given.1
 
-pub cpu-layer-spec : {M : Type 1} → statement M
-cpu-layer-spec =
+pub cpu_layer_spec : {M : Type 1} → statement M
+cpu_layer_spec =
     tie.close
     (tie.spec
     (λ c κs. omega arith)

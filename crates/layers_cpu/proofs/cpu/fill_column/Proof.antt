@@ -7,27 +7,27 @@ use native.Mathlib.Omega.{arith}
 use borrow.Author.Rules.{rules}
 use lib.ListN.{length, take, drop, set, length-set}
 use lib.Ieee.{Float}
-use Rattle.refusals.specs.Said.{value, saidBy}
-use Rattle.refusals.proofs.Laws.{value_of, no-refusal}
+use Rattle.refusals.specs.Said.{value, said_by}
+use Rattle.refusals.proofs.Laws.{value_of, no_refusal}
 use Rattle.memory.specs.Lists.{part}
 use Rattle.memory.proofs.Filled.{part_length}
 use Rattle.memory.proofs.Parts.{within}
 use Rattle.sums_lanes.specs.Lanes.{products}
-use Rattle.sums.specs.Rows.{rowSum}
-use Rattle.sums.proofs.RowLaws.{dot-answers}
+use Rattle.sums.specs.Rows.{row_sum}
+use Rattle.sums.proofs.RowLaws.{dot_answers}
 use Rattle.layers_cpu.specs.Columns.{column}
-use Rattle.layers_cpu.proofs.Columns.{column-none, column-more}
+use Rattle.layers_cpu.proofs.Columns.{column_none, column_more}
 use Rattle.layers_cpu.proofs.cpu.fill_column.Statement.{statement}
 use Rattle.layers_cpu.proofs.cpu.fill_column.Tie as tie
 
 abbrev invariant-loop : tie.invariant-loop
-invariant-loop x row y₀ o n outs b₀ b_end y b = (y ≡ column (λ k. rowSum (products (part x (k * n) n) row) n) outs o y₀ b) × (b ≤ b_end) × (length y ≡ length y₀)
+invariant-loop x row y₀ o n outs b₀ b_end y b = (y ≡ column (λ k. row_sum (products (part x (k * n) n) row) n) outs o y₀ b) × (b ≤ b_end) × (length y ≡ length y₀)
 
 abbrev decreases-loop : tie.decreases-loop
 decreases-loop x row y₀ o n outs b₀ b_end y b = b_end - b
 
 loop-holds : tie.Need-loop-init invariant-loop decreases-loop
-loop-holds c = (column-none _ _ _ _, zero-le, refl)
+loop-holds c = (column_none _ _ _ _, zero-le, refl)
 
 -- row b lies within the readings, and its place within the output
 facts : (c : tie.In-loop invariant-loop decreases-loop)
@@ -65,7 +65,7 @@ said : (c : tie.After-canonical-dot-pub invariant-loop decreases-loop)
     → (let d = c.before.before in
     let a = d.before.before.before.before.before.args in
     let n = a.s.in_feat in
-    saidBy c.canonical-dot-pub.result ≡ value (rowSum (products (part a.x.now (d.before.loop.b * n) n) a.row.now) n))
+    said_by c.canonical-dot-pub.result ≡ value (row_sum (products (part a.x.now (d.before.loop.b * n) n) a.row.now) n))
 said c =
     let d = c.before.before in
     let t = d.before.before.before.before.before in
@@ -76,14 +76,14 @@ said c =
     let long : length lent ≡ n = part_length a.x.now from n (from + n) refl (facts d).0 in
     let width : from + n - from ≡ n = omega arith in
     c.canonical-dot-pub.ensures
-    ∙ dot-answers lent a.row.now n t.requires.0.1 (le_of_eq (sym long)) (le_of_eq (sym t.requires.1.1))
-    ∙ ap (λ (k : ℕ). value (rowSum (products (take k (drop from a.x.now)) a.row.now) n)) width
+    ∙ dot_answers lent a.row.now n t.requires.0.1 (le_of_eq (sym long)) (le_of_eq (sym t.requires.1.1))
+    ∙ ap (λ (k : ℕ). value (row_sum (products (take k (drop from a.x.now)) a.row.now) n)) width
 
 same_length : tie.Need-same-length invariant-loop decreases-loop
 same_length c = c.before.before.before.before.before.before.loop.invariant.2
 
 returns : tie.Need-returns invariant-loop decreases-loop
-returns c = absurd (no-refusal _ _ _ (said c.before.before.before) c.before.enum_told.given.1)
+returns c = absurd (no_refusal _ _ _ (said c.before.before.before) c.before.enum_told.given.1)
 
 mul-y : tie.Need-overflow-mul-y invariant-loop decreases-loop
 mul-y c = let d = c.before.before.before.before.before in omega (arith, facts d, d.before.before.before.before.before.requires.0, d.before.loop.invariant.2)
@@ -111,10 +111,10 @@ loop-again c =
     let a = d.before.before.before.before.before.args in
     let n = a.s.in_feat in
     let outs = a.s.out_feat in
-    let v : ℕ → Float = λ k. rowSum (products (part a.x.now (k * n) n) a.row.now) n in
+    let v : ℕ → Float = λ k. row_sum (products (part a.x.now (k * n) n) a.row.now) n in
     let place = l.b * outs + a.o in
     let e = value_of _ _ _ (said m.before) c.before.answer.given.1 in (
-      ap (λ (u : Float). set l.y place u) e ∙ ap (λ (ys : List Float). set ys place (v l.b)) l.invariant.0 ∙ column-more v outs a.o a.y.now l.b,
+      ap (λ (u : Float). set l.y place u) e ∙ ap (λ (ys : List Float). set ys place (v l.b)) l.invariant.0 ∙ column_more v outs a.o a.y.now l.b,
       omega (arith, d.loop-test.true),
       length-set l.y place _ ∙ l.invariant.2,
     )
@@ -127,11 +127,11 @@ returns-2 c =
     let l = c.before.loop in
     let a = c.before.before.before.before.before.args in
     let n = a.s.in_feat in
-    let v : ℕ → Float = λ k. rowSum (products (part a.x.now (k * n) n) a.row.now) n in
+    let v : ℕ → Float = λ k. row_sum (products (part a.x.now (k * n) n) a.row.now) n in
     (refl, l.invariant.0 ∙ ap (column v a.s.out_feat a.o a.y.now) (le_antisymm l.invariant.1 c.loop-test.false))
 
-pub fill-column-spec : {M : Type 1} → statement M
-fill-column-spec =
+pub fill_column_spec : {M : Type 1} → statement M
+fill_column_spec =
     tie.close
     (tie.spec
     invariant-loop

@@ -12,8 +12,8 @@ returns c = cc
 returns-2 : tie.Need-returns-2
 returns-2 c = cc
 
-pub cpu-refusal-spec : {M : Type 1} → statement M
-cpu-refusal-spec =
+pub cpu_refusal_spec : {M : Type 1} → statement M
+cpu_refusal_spec =
     tie.close
     (tie.spec
     (λ c. search rules)

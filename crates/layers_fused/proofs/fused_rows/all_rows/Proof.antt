@@ -10,18 +10,18 @@ use lib.Arith.{digits_div, digits_mod}
 use lib.ListN.{length, take, drop}
 use lib.Ieee.{Float}
 use Rattle.refusals.specs.Said.{done}
-use Rattle.refusals.proofs.Laws.{carried-value, never-refused}
+use Rattle.refusals.proofs.Laws.{carried_value, never_refused}
 use Rattle.memory.specs.Lists.{table, filled, part}
-use Rattle.memory.proofs.Filled.{filled_none, part_length, part-turn}
+use Rattle.memory.proofs.Filled.{filled_none, part_length, part_turn}
 use Rattle.memory.proofs.Parts.{within}
 use Rattle.layers_shape.specs.Shapes.{outputs}
 use Rattle.layers_shape.proofs.Fits.{Fits, fits}
-use Rattle.layers_fused.specs.Says.{fusedDotAt, fusedLayerSays}
+use Rattle.layers_fused.specs.Says.{fused_dot_at, fused_layer_says}
 use Rattle.layers_fused.proofs.fused_rows.all_rows.Statement.{statement}
 use Rattle.layers_fused.proofs.fused_rows.all_rows.Tie as tie
 
 abbrev invariant-loop : tie.invariant-loop
-invariant-loop format x w y₀ n outs b₀ b_end y b = (y ≡ filled (λ k. fusedDotAt format (part x (k / outs * n) n) w n (k % outs)) y₀ (b * outs)) × (b ≤ b_end) × (length y ≡ length y₀)
+invariant-loop format x w y₀ n outs b₀ b_end y b = (y ≡ filled (λ k. fused_dot_at format (part x (k / outs * n) n) w n (k % outs)) y₀ (b * outs)) × (b ≤ b_end) × (length y ≡ length y₀)
 
 abbrev decreases-loop : tie.decreases-loop
 decreases-loop format x w y₀ n outs b₀ b_end y b = b_end - b
@@ -102,19 +102,19 @@ one-row-requires c κs =
     let d = c.before.before in
     let f = (facts d).0 in
     let n = lengths d in
-    rw (n.0, n.1) (f.within.in-in, f.whole, f.within.out-in, f.weighed)
+    rw (n.0, n.1) (f.within.in_in, f.whole, f.within.out_in, f.weighed)
 
 enum_told : tie.Need-enum-told invariant-loop decreases-loop
 enum_told c = search rules
 
 same_length : tie.Need-same-length invariant-loop decreases-loop
-same_length c = absurd (never-refused _ _ c.before.before.before.before.one-row.ensures.0 c.enum-told2.given.1)
+same_length c = absurd (never_refused _ _ c.before.before.before.before.one-row.ensures.0 c.enum-told2.given.1)
 
 returns : tie.Need-returns invariant-loop decreases-loop
-returns c = absurd (never-refused _ _ c.before.before.before.before.one-row.ensures.0 c.enum-told2.given.1)
+returns c = absurd (never_refused _ _ c.before.before.before.before.one-row.ensures.0 c.enum-told2.given.1)
 
 add-b : tie.Need-overflow-add-b invariant-loop decreases-loop
-add-b c = let d = c.before.before.before.before.before.before.before in omega (arith, d.loop-test.true, (facts d).0.within.batch-in)
+add-b c = let d = c.before.before.before.before.before.before.before in omega (arith, d.loop-test.true, (facts d).0.within.batch_in)
 
 loop-less : tie.Need-loop-smaller invariant-loop decreases-loop
 loop-less c = omega (arith, c.before.before.before.before.before.before.before.loop-test.true)
@@ -130,14 +130,14 @@ loop-again c =
     let x = a.x.now in
     let w = a.w.now in
     let row = take (b * n + n - b * n) (drop (b * n) x) in
-    let f : ℕ → Float = λ k. fusedDotAt a.format (part x (k / outs * n) n) w n (k % outs) in
-    let g : ℕ → Float = λ o. fusedDotAt a.format row w (length row) o in
+    let f : ℕ → Float = λ k. fused_dot_at a.format (part x (k / outs * n) n) w n (k % outs) in
+    let g : ℕ → Float = λ o. fused_dot_at a.format row w (length row) o in
     let long = lengths d in
     let next : (b + 1) * outs ≡ b * outs + outs = rw add-one (suc-mul b outs) in
     let width : b * n + n - b * n ≡ n = omega arith in
     let same : (o : ℕ) → o < outs → g o ≡ f (b * outs + o) = λ o h. rw (long.0, width, digits_div b h, digits_mod b h) in
     let p =
-    part-turn f g a.y.now l.y c.before.before.before.before.one-row.new.1.1.1.0 (b * outs) outs (b * outs + outs) ((b + 1) * outs) refl next (facts d).2 l.invariant.0
+    part_turn f g a.y.now l.y c.before.before.before.before.one-row.new.1.1.1.0 (b * outs) outs (b * outs + outs) ((b + 1) * outs) refl next (facts d).2 l.invariant.0
     (c.before.before.before.before.one-row.ensures.1 ∙ ap (table g) long.1) same in
     (p.0, omega (arith, d.loop-test.true), p.1)
 
@@ -145,18 +145,18 @@ same-length-2 : tie.Need-same-length-2 invariant-loop decreases-loop
 same-length-2 c = c.before.loop.invariant.2
 
 returns-2 : tie.Need-returns-2 invariant-loop decreases-loop
-unfolding fusedLayerSays outputs
+unfolding fused_layer_says outputs
 returns-2 c =
     let l = c.before.loop in
     let t = c.before.before.before.before.before in
     let a = t.args in
     let outs = a.s.out_feat in
-    let f : ℕ → Float = λ k. fusedDotAt a.format (part a.x.now (k / outs * a.s.in_feat) a.s.in_feat) a.w.now a.s.in_feat (k % outs) in
+    let f : ℕ → Float = λ k. fused_dot_at a.format (part a.x.now (k / outs * a.s.in_feat) a.s.in_feat) a.w.now a.s.in_feat (k % outs) in
     let e : l.b ≡ a.s.batch = le_antisymm l.invariant.1 c.loop-test.false in
-    ap (λ (y : List Float). (done, y)) (l.invariant.0 ∙ ap (λ (b : ℕ). filled f a.y.now (b * outs)) e) ∙ sym (carried-value _ _ _ _ t.requires)
+    ap (λ (y : List Float). (done, y)) (l.invariant.0 ∙ ap (λ (b : ℕ). filled f a.y.now (b * outs)) e) ∙ sym (carried_value _ _ _ _ t.requires)
 
-pub all-rows-spec : {M : Type 1} → statement M
-all-rows-spec =
+pub all_rows_spec : {M : Type 1} → statement M
+all_rows_spec =
     tie.close
     (tie.spec
     invariant-loop

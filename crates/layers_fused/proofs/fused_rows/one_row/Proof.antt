@@ -6,27 +6,27 @@ use native.Mathlib.Omega.{arith}
 use borrow.Author.Rules.{rules}
 use mathlib.Core.List.{List}
 use lib.ListN.{length, take, drop}
-use Rattle.refusals.specs.Said.{value, saidBy}
-use Rattle.refusals.proofs.Laws.{value_of, no-refusal}
-use Rattle.memory.proofs.Filled.{Filling, filling-start, filling-more, filling-done, part_length}
-use Rattle.memory.proofs.Parts.{within, lent-part}
-use Rattle.sums.specs.Rows.{rowSum}
+use Rattle.refusals.specs.Said.{value, said_by}
+use Rattle.refusals.proofs.Laws.{value_of, no_refusal}
+use Rattle.memory.proofs.Filled.{Filling, filling_start, filling_more, filling_done, part_length}
+use Rattle.memory.proofs.Parts.{within, lent_part}
+use Rattle.sums.specs.Rows.{row_sum}
 use Rattle.dots_fused_block.specs.Terms.{terms}
-use Rattle.layers_shape.specs.Shapes.{rowBytes}
+use Rattle.layers_shape.specs.Shapes.{row_bytes}
 use Rattle.layers_shape.proofs.Fits.{row_small}
-use Rattle.layers_fused.specs.Says.{fusedDotAt}
-use Rattle.layers_fused.proofs.RowDots.{fused-answers}
+use Rattle.layers_fused.specs.Says.{fused_dot_at}
+use Rattle.layers_fused.proofs.RowDots.{fused_answers}
 use Rattle.layers_fused.proofs.fused_rows.one_row.Statement.{statement}
 use Rattle.layers_fused.proofs.fused_rows.one_row.Tie as tie
 
 abbrev invariant-loop : tie.invariant-loop
-invariant-loop format x w y₀ n size o₀ o-end y o = Filling (fusedDotAt format x w (length x)) y₀ (length y₀) y o
+invariant-loop format x w y₀ n size o₀ o_end y o = Filling (fused_dot_at format x w (length x)) y₀ (length y₀) y o
 
 abbrev decreases-loop : tie.decreases-loop
-decreases-loop format x w y₀ n size o₀ o-end y o = length y₀ - o
+decreases-loop format x w y₀ n size o₀ o_end y o = length y₀ - o
 
 loop-holds : tie.Need-loop-init invariant-loop decreases-loop
-loop-holds c = filling-start _ _ _ refl
+loop-holds c = filling_start _ _ _ refl
 
 -- row o lies within the weights
 facts : (c : tie.In-loop invariant-loop decreases-loop)
@@ -60,7 +60,7 @@ part-fused-dot-end c = omega (arith, facts c)
 said : (c : tie.After-fused-dot invariant-loop decreases-loop)
     → (let d = c.before.before in
     let a = d.before.before.before.before.before.before.args in
-    saidBy c.fused-dot.result ≡ value (fusedDotAt a.format a.x.now a.w.now (length a.x.now) d.before.loop.o))
+    said_by c.fused-dot.result ≡ value (fused_dot_at a.format a.x.now a.w.now (length a.x.now) d.before.loop.o))
 said c =
     let d = c.before.before in
     let o = d.before.loop.o in
@@ -70,10 +70,10 @@ said c =
     let n = length a.x.now in
     let size = r.result in
     let from = o * size in
-    let long : length (take (from + size - from) (drop from a.w.now)) ≡ rowBytes a.format n = part_length a.w.now from size (from + size) refl (facts d).0 ∙ r.ensures in
+    let long : length (take (from + size - from) (drop from a.w.now)) ≡ row_bytes a.format n = part_length a.w.now from size (from + size) refl (facts d).0 ∙ r.ensures in
     c.fused-dot.ensures
-    ∙ fused-answers a.format a.x.now (take (from + size - from) (drop from a.w.now)) n t.requires.0 (le_refl n) t.requires.1 long
-    ∙ ap (λ (v : List ℕ). value (rowSum (terms a.format a.x.now v) n)) (lent-part a.w.now o size (rowBytes a.format n) r.ensures)
+    ∙ fused_answers a.format a.x.now (take (from + size - from) (drop from a.w.now)) n t.requires.0 (le_refl n) t.requires.1 long
+    ∙ ap (λ (v : List ℕ). value (row_sum (terms a.format a.x.now v) n)) (lent_part a.w.now o size (row_bytes a.format n) r.ensures)
 
 enum_told : tie.Need-enum-told invariant-loop decreases-loop
 enum_told c = search rules
@@ -84,14 +84,14 @@ same_length c = c.before.before.before.before.before.before.loop.invariant.2
 returns : tie.Need-returns invariant-loop decreases-loop
 returns c =
     let m = c.before.before in
-    absurd (no-refusal _ _ _ (said m.before) c.before.enum_told.given.1)
+    absurd (no_refusal _ _ _ (said m.before) c.before.enum_told.given.1)
 
 loop-again : tie.Need-loop-preserved invariant-loop decreases-loop
 loop-again c =
     let m = c.before.before in
     let d = m.before.before.before in
     let t = d.before.before.before.before.before.before in
-    filling-more (fusedDotAt t.args.format t.args.x.now t.args.w.now (length t.args.x.now)) t.args.y.now (length t.args.y.now) d.before.loop.y d.before.loop.o _ refl d.before.loop.invariant d.loop-test.true
+    filling_more (fused_dot_at t.args.format t.args.x.now t.args.w.now (length t.args.x.now)) t.args.y.now (length t.args.y.now) d.before.loop.y d.before.loop.o _ refl d.before.loop.invariant d.loop-test.true
     (value_of _ _ _ (said m.before) c.before.answer.given.1)
 
 same-length-2 : tie.Need-same-length-2 invariant-loop decreases-loop
@@ -100,10 +100,10 @@ same-length-2 c = c.before.loop.invariant.2
 returns-2 : tie.Need-returns-2 invariant-loop decreases-loop
 returns-2 c =
     let t = c.before.before.before.before.before.before in
-    (refl, filling-done (fusedDotAt t.args.format t.args.x.now t.args.w.now (length t.args.x.now)) t.args.y.now (length t.args.y.now) c.before.loop.y c.before.loop.o refl c.before.loop.invariant c.loop-test.false)
+    (refl, filling_done (fused_dot_at t.args.format t.args.x.now t.args.w.now (length t.args.x.now)) t.args.y.now (length t.args.y.now) c.before.loop.y c.before.loop.o refl c.before.loop.invariant c.loop-test.false)
 
-pub one-row-spec : {M : Type 1} → statement M
-one-row-spec =
+pub one_row_spec : {M : Type 1} → statement M
+one_row_spec =
     tie.close
     (tie.spec
     invariant-loop

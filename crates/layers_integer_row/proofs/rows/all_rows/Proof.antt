@@ -7,14 +7,14 @@ use lib.Arith.{digits_div, digits_mod}
 use lib.ListN.{length, take, drop}
 use lib.Ieee.{Float}
 use Rattle.memory.specs.Lists.{table, filled, part}
-use Rattle.memory.proofs.Filled.{filled_none, part_length, part-turn}
+use Rattle.memory.proofs.Filled.{filled_none, part_length, part_turn}
 use Rattle.memory.proofs.Parts.{within}
 use Rattle.layers_shape.specs.Shapes.{outputs}
 use Rattle.layers_shape.proofs.Fits.{Fits, fits}
 use Rattle.dots_kept_row.specs.Inner.{KeptRoom, Keeps}
-use Rattle.dots_kept_row.proofs.Blocks.{room-same, kept_by}
-use Rattle.layers_integer_row.specs.Inner.{keptRowDot}
-use Rattle.layers_integer_row.specs.Outputs.{integerDotAt}
+use Rattle.dots_kept_row.proofs.Blocks.{room_same, kept_by}
+use Rattle.layers_integer_row.specs.Inner.{kept_row_dot}
+use Rattle.layers_integer_row.specs.Outputs.{integer_dot_at}
 use Rattle.layers_integer_row.proofs.Outputs.{row_same}
 use native.Mathlib.Omega.{arith}
 use Rattle.layers_integer_row.proofs.rows.all_rows.Statement.{statement}
@@ -22,7 +22,7 @@ use Rattle.layers_integer_row.proofs.rows.all_rows.Tie as tie
 
 abbrev invariant-loop : tie.invariant-loop
 invariant-loop format meeting x w ds₀ qs₀ sums₀ dots₀ y₀ n outs b₀ b_end ds qs sums dots y b =
-    (y ≡ filled (λ k. integerDotAt format meeting (part x (k / outs * n) n) w n (k % outs)) y₀ (b * outs)) × (b ≤ b_end) × (length y ≡ length y₀)
+    (y ≡ filled (λ k. integer_dot_at format meeting (part x (k / outs * n) n) w n (k % outs)) y₀ (b * outs)) × (b ≤ b_end) × (length y ≡ length y₀)
     × (length ds ≡ length ds₀) × (length qs ≡ length qs₀) × (length sums ≡ length sums₀) × (length dots ≡ length dots₀)
 
 abbrev decreases-loop : tie.decreases-loop
@@ -81,13 +81,13 @@ room : (c : tie.In-loop invariant-loop decreases-loop) → (let l = c.before.loo
 room c =
     let t = c.before.before.before.before.before.before.before in
     let l = c.before.loop in
-    room-same _ t.args.ds.now l.ds t.args.qs.now l.qs t.args.sums.now l.sums l.invariant.3 l.invariant.4 l.invariant.5 t.requires.2
+    room_same _ t.args.ds.now l.ds t.args.qs.now l.qs t.args.sums.now l.sums l.invariant.3 l.invariant.4 l.invariant.5 t.requires.2
 
 keep-row-requires : tie.Need-keep-row-requires invariant-loop decreases-loop
 keep-row-requires c κs =
     let d = c.before.before.before.before in
     let l = d.before.loop in
-    (le_trans (le_of_eq (long d)) (facts d).0.within.in-in, subst (λ (z : ℕ). KeptRoom (z / 256) l.ds l.qs l.sums) (sym (long d)) (room d))
+    (le_trans (le_of_eq (long d)) (facts d).0.within.in_in, subst (λ (z : ℕ). KeptRoom (z / 256) l.ds l.qs l.sums) (sym (long d)) (room d))
 
 mul_at : tie.Need-overflow-mul-at invariant-loop decreases-loop
 mul_at c = let d = c.before.before.before.before.before.before.before.before.before in omega (arith, (facts d).2)
@@ -126,7 +126,7 @@ keeps c =
     let row = take (from + n - from) (drop from a.x.now) in
     let by_length = subst (λ (z : ℕ). Keeps row (z / 256) h.1.0 h.1.1.0 h.1.1.1.0) (long d) c.keep_row.ensures in (
       subst (λ (z : ℕ). Keeps (take z (drop from a.x.now)) (n / 256) h.1.0 h.1.1.0 h.1.1.1.0) width by_length,
-      room-same (n / 256) l.ds h.1.0 l.qs h.1.1.0 l.sums h.1.1.1.0 k.1.0 k.1.1.0 k.1.1.1.0 (room d),
+      room_same (n / 256) l.ds h.1.0 l.qs h.1.1.0 l.sums h.1.1.1.0 k.1.0 k.1.1.0 k.1.1.1.0 (room d),
     )
 
 -- a place for each block, and for each row of weights
@@ -151,10 +151,10 @@ one-row-requires c κs =
     let p = places d in
     let h = k.keep_row.new in
     let row = keeps k in
-    rw (p.0, p.1) (omega (arith, f.within.in-in), f.within.out-in, f.weighed, kept_by _ _ h.1.0 h.1.1.0 h.1.1.1.0 row.1 row.0)
+    rw (p.0, p.1) (omega (arith, f.within.in_in), f.within.out_in, f.weighed, kept_by _ _ h.1.0 h.1.1.0 h.1.1.1.0 row.1 row.0)
 
 add-b : tie.Need-overflow-add-b invariant-loop decreases-loop
-add-b c = let d = c.before.before.before.before.before.before.before.before.before.before.before.before.before.before.before.before.before.before.before in omega (arith, d.loop-test.true, (facts d).0.within.batch-in)
+add-b c = let d = c.before.before.before.before.before.before.before.before.before.before.before.before.before.before.before.before.before.before.before in omega (arith, d.loop-test.true, (facts d).0.within.batch_in)
 
 loop-less : tie.Need-loop-smaller invariant-loop decreases-loop
 loop-less c = omega (arith, c.before.before.before.before.before.before.before.before.before.before.before.before.before.before.before.before.before.before.before.loop-test.true)
@@ -174,16 +174,16 @@ loop-again c =
     let h = k.keep_row.new in
     let kept = k.keep_row.auto in
     let p = places d in
-    let f : ℕ → Float = λ j. integerDotAt a.format a.meeting (part x (j / outs * n) n) w n (j % outs) in
-    let g : ℕ → Float = keptRowDot a.format a.meeting w h.1.0 h.1.1.0 h.1.1.1.0 (length l.dots) in
+    let f : ℕ → Float = λ j. integer_dot_at a.format a.meeting (part x (j / outs * n) n) w n (j % outs) in
+    let g : ℕ → Float = kept_row_dot a.format a.meeting w h.1.0 h.1.1.0 h.1.1.1.0 (length l.dots) in
     let next : (b + 1) * outs ≡ b * outs + outs = rw add-one (suc-mul b outs) in
     let same : (o : ℕ) → o < outs → g o ≡ f (b * outs + o) =
     λ o t.
-    ap (λ (z : ℕ). keptRowDot a.format a.meeting w h.1.0 h.1.1.0 h.1.1.1.0 z o) p.0
+    ap (λ (z : ℕ). kept_row_dot a.format a.meeting w h.1.0 h.1.1.0 h.1.1.1.0 z o) p.0
     ∙ row_same a.format (part x (b * n) n) n h.1.0 h.1.1.0 h.1.1.1.0 (keeps k).0 a.meeting w o
     ∙ rw (digits_div b t, digits_mod b t) in
     let r =
-    part-turn f g a.y.now l.y q.one-row.new.1.1.1.1.1.1.1.0 (b * outs) outs (b * outs + outs) ((b + 1) * outs) refl next (facts d).2 l.invariant.0
+    part_turn f g a.y.now l.y q.one-row.new.1.1.1.1.1.1.1.0 (b * outs) outs (b * outs + outs) ((b + 1) * outs) refl next (facts d).2 l.invariant.0
     (q.one-row.ensures ∙ ap (table g) p.1) same in
     (r.0, omega (arith, d.loop-test.true), r.1, kept.1.0 ∙ l.invariant.3, kept.1.1.0 ∙ l.invariant.4, kept.1.1.1.0 ∙ l.invariant.5, q.one-row.auto.1.1.1.1.1.1.0 ∙ l.invariant.6)
 
@@ -209,12 +209,12 @@ returns c =
     let a = c.before.before.before.before.before.before.before.args in
     let n = a.s.in_feat in
     let outs = a.s.out_feat in
-    let f : ℕ → Float = λ k. integerDotAt a.format a.meeting (part a.x.now (k / outs * n) n) a.w.now n (k % outs) in
+    let f : ℕ → Float = λ k. integer_dot_at a.format a.meeting (part a.x.now (k / outs * n) n) a.w.now n (k % outs) in
     let e : l.b ≡ a.s.batch = le_antisymm l.invariant.1 c.loop-test.false in
     l.invariant.0 ∙ ap (λ (b : ℕ). filled f a.y.now (b * outs)) e
 
-pub all-rows-spec : {M : Type 1} → statement M
-all-rows-spec =
+pub all_rows_spec : {M : Type 1} → statement M
+all_rows_spec =
     tie.close
     (tie.spec
     invariant-loop

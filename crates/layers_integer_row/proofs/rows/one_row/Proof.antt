@@ -4,24 +4,24 @@ use mathlib.Core.List.{List}
 use Prim.Native.Nat.{ℕ, ◌+◌, ◌-◌, ◌*◌, ◌≤◌, ◌<◌}
 use native.Mathlib.Nat.{le_of_eq, le_trans}
 use lib.ListN.{length, take, drop}
-use Rattle.memory.proofs.Filled.{Filling, filling-start, filling-more, filling-done, part_length}
-use Rattle.memory.proofs.Parts.{within, lent-part}
-use Rattle.layouts.specs.Formats.{bytesK}
+use Rattle.memory.proofs.Filled.{Filling, filling_start, filling_more, filling_done, part_length}
+use Rattle.memory.proofs.Parts.{within, lent_part}
+use Rattle.layouts.specs.Formats.{bytes_k}
 use Rattle.layouts.specs.declared.format.Format.TheVariants.{OfK}
 use Rattle.layouts.proofs.Sizes.{sizes}
 use Rattle.layers_shape.proofs.Fits.{product_small}
 use native.Mathlib.Omega.{arith}
 use Rattle.dots_kept_row.specs.Meets.{meets}
-use Rattle.dots_kept_row.specs.Inner.{KeptRow, keptDot}
-use Rattle.layers_integer_row.specs.Inner.{keptRowDot}
+use Rattle.dots_kept_row.specs.Inner.{KeptRow, kept_dot}
+use Rattle.layers_integer_row.specs.Inner.{kept_row_dot}
 use Rattle.layers_integer_row.proofs.rows.one_row.Statement.{statement}
 use Rattle.layers_integer_row.proofs.rows.one_row.Tie as tie
 
 abbrev invariant-loop : tie.invariant-loop
-invariant-loop format meeting w ds qs sums dots₀ y₀ size o₀ o-end dots y o = (length dots ≡ length dots₀) × Filling (keptRowDot format meeting w ds qs sums (length dots₀)) y₀ (length y₀) y o
+invariant-loop format meeting w ds qs sums dots₀ y₀ size o₀ o_end dots y o = (length dots ≡ length dots₀) × Filling (kept_row_dot format meeting w ds qs sums (length dots₀)) y₀ (length y₀) y o
 
 abbrev decreases-loop : tie.decreases-loop
-decreases-loop format meeting w ds qs sums dots₀ y₀ size o₀ o-end dots y o = length y₀ - o
+decreases-loop format meeting w ds qs sums dots₀ y₀ size o₀ o_end dots y o = length y₀ - o
 
 -- a row's bytes are few
 small : (c : tie.After-block-bytes invariant-loop decreases-loop) → length c.before.before.before.before.before.args.dots.now * c.block-bytes.result ≤ 107520
@@ -46,7 +46,7 @@ mul-size : tie.Need-overflow-mul-size invariant-loop decreases-loop
 mul-size c = omega (arith, small c)
 
 loop-holds : tie.Need-loop-init invariant-loop decreases-loop
-loop-holds c = (refl, filling-start _ _ _ refl)
+loop-holds c = (refl, filling_start _ _ _ refl)
 
 mul-from : tie.Need-overflow-mul-from invariant-loop decreases-loop
 mul-from c = omega (arith, facts c)
@@ -72,7 +72,7 @@ kept-row-dot-requires c κs =
     let size = length s.args.dots.now * k.block-bytes.result in
     let e = l.invariant.0 in
     let long = part_length s.args.w.now (l.o * size) size (l.o * size + size) refl (facts d).0 in
-    let bytes = ap (λ (n : ℕ). n * bytesK s.args.format) e ∙ ap (λ (z : ℕ). length s.args.dots.now * z) (sym k.block-bytes.ensures) in
+    let bytes = ap (λ (n : ℕ). n * bytes_k s.args.format) e ∙ ap (λ (z : ℕ). length s.args.dots.now * z) (sym k.block-bytes.ensures) in
     (le_trans (le_of_eq e) s.requires.0, le_of_eq (bytes ∙ sym long), subst (λ (n : ℕ). KeptRow n s.args.ds.now s.args.qs.now s.args.sums.now) (sym e) s.requires.3)
 
 loop-again : tie.Need-loop-preserved invariant-loop decreases-loop
@@ -87,10 +87,10 @@ loop-again c =
     let row = take (l.o * size + size - l.o * size) (drop (l.o * size) a.w.now) in
     let value =
     q.kept-row-dot.ensures
-    ∙ ap (meets a.meeting (keptDot a.format row a.ds.now a.qs.now a.sums.now)) l.invariant.0
-    ∙ ap (λ (v : List ℕ). meets a.meeting (keptDot a.format v a.ds.now a.qs.now a.sums.now) n)
-    (lent-part a.w.now l.o size (n * bytesK a.format) (ap (λ (z : ℕ). n * z) k.block-bytes.ensures)) in
-    (q.kept-row-dot.auto.1.1.1.1.1.1.0 ∙ l.invariant.0, filling-more (keptRowDot a.format a.meeting a.w.now a.ds.now a.qs.now a.sums.now n) a.y.now (length a.y.now) l.y l.o _ refl l.invariant.1 d.loop-test.true value)
+    ∙ ap (meets a.meeting (kept_dot a.format row a.ds.now a.qs.now a.sums.now)) l.invariant.0
+    ∙ ap (λ (v : List ℕ). meets a.meeting (kept_dot a.format v a.ds.now a.qs.now a.sums.now) n)
+    (lent_part a.w.now l.o size (n * bytes_k a.format) (ap (λ (z : ℕ). n * z) k.block-bytes.ensures)) in
+    (q.kept-row-dot.auto.1.1.1.1.1.1.0 ∙ l.invariant.0, filling_more (kept_row_dot a.format a.meeting a.w.now a.ds.now a.qs.now a.sums.now n) a.y.now (length a.y.now) l.y l.o _ refl l.invariant.1 d.loop-test.true value)
 
 same_length : tie.Need-same-length invariant-loop decreases-loop
 same_length c = c.before.loop.invariant.0
@@ -102,10 +102,10 @@ returns : tie.Need-returns invariant-loop decreases-loop
 returns c =
     let a = c.before.before.before.before.before.before.before.args in
     let l = c.before.loop in
-    filling-done (keptRowDot a.format a.meeting a.w.now a.ds.now a.qs.now a.sums.now (length a.dots.now)) a.y.now (length a.y.now) l.y l.o refl l.invariant.1 c.loop-test.false
+    filling_done (kept_row_dot a.format a.meeting a.w.now a.ds.now a.qs.now a.sums.now (length a.dots.now)) a.y.now (length a.y.now) l.y l.o refl l.invariant.1 c.loop-test.false
 
-pub one-row-spec : {M : Type 1} → statement M
-one-row-spec =
+pub one_row_spec : {M : Type 1} → statement M
+one_row_spec =
     tie.close
     (tie.spec
     invariant-loop

@@ -7,7 +7,7 @@ use lib.Seq.{length-take-le}
 use Rattle.numbers.specs.Steps.{nought}
 use native.Mathlib.Omega.{arith}
 use borrow.Author.Rules.{rules}
-use Rattle.dots_kept_row.proofs.Blocks.{room-new}
+use Rattle.dots_kept_row.proofs.Blocks.{room_new}
 use Rattle.layers_integer_row.proofs.rows.rows_of_16.Statement.{statement}
 use Rattle.layers_integer_row.proofs.rows.rows_of_16.Tie as tie
 
@@ -25,10 +25,10 @@ all-rows-requires : tie.Need-all-rows-requires
 all-rows-requires c κs =
     let t = c.before.before.before.before.before.before.before.before.before in
     let blocks = t.args.s.in_feat / 256 in
-    (t.requires.0, length-take-le blocks (replicate 16 nought) (rw length-replicate (few c.before.before.before.before.before)), room-new blocks 16 nought (pos 0) (pos 0) (few c.before.before.before.before.before))
+    (t.requires.0, length-take-le blocks (replicate 16 nought) (rw length-replicate (few c.before.before.before.before.before)), room_new blocks 16 nought (pos 0) (pos 0) (few c.before.before.before.before.before))
 
-pub rows-of-16-spec : {M : Type 1} → statement M
-rows-of-16-spec =
+pub rows_of_16_spec : {M : Type 1} → statement M
+rows_of_16_spec =
     tie.close
     (tie.spec
     (λ c. search rules)

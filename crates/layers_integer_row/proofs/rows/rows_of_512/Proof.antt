@@ -8,13 +8,13 @@ use Rattle.numbers.specs.Steps.{nought}
 use Rattle.layers_shape.proofs.Fits.{fits}
 use native.Mathlib.Omega.{arith}
 use borrow.Author.Rules.{rules}
-use Rattle.dots_kept_row.proofs.Blocks.{room-new}
+use Rattle.dots_kept_row.proofs.Blocks.{room_new}
 use Rattle.layers_integer_row.proofs.rows.rows_of_512.Statement.{statement}
 use Rattle.layers_integer_row.proofs.rows.rows_of_512.Tie as tie
 
 -- a row's blocks are at most 512
 few : (c : tie.After-struct-known) → c.before.before.before.before.args.s.in_feat / 256 ≤ 512
-few c = let t = c.before.before.before.before in omega (arith, (fits _ _ _ _ _ t.requires).within.in-in)
+few c = let t = c.before.before.before.before in omega (arith, (fits _ _ _ _ _ t.requires).within.in_in)
 
 array-borrow-prefix-dots : tie.Need-array-borrow-prefix-dots
 array-borrow-prefix-dots c = few c.before.before.before
@@ -26,10 +26,10 @@ all-rows-requires : tie.Need-all-rows-requires
 all-rows-requires c κs =
     let t = c.before.before.before.before.before.before.before.before.before in
     let blocks = t.args.s.in_feat / 256 in
-    (t.requires, length-take-le blocks (replicate 512 nought) (rw length-replicate (few c.before.before.before.before.before)), room-new blocks 512 nought (pos 0) (pos 0) (few c.before.before.before.before.before))
+    (t.requires, length-take-le blocks (replicate 512 nought) (rw length-replicate (few c.before.before.before.before.before)), room_new blocks 512 nought (pos 0) (pos 0) (few c.before.before.before.before.before))
 
-pub rows-of-512-spec : {M : Type 1} → statement M
-rows-of-512-spec =
+pub rows_of_512_spec : {M : Type 1} → statement M
+rows_of_512_spec =
     tie.close
     (tie.spec
     (λ c. search rules)

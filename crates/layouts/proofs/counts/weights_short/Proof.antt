@@ -13,5 +13,5 @@ div-blocks-short c = omega (arith, sizes (OfK c.before.args.format), c.block-byt
 returns : tie.Need-returns
 returns c = rw (sym c.before.block-bytes.ensures) c.blocks-short.ensures
 
-pub weights-short-spec : {M : Type 1} → statement M
-weights-short-spec = tie.close (tie.spec (λ c κs. search rules) div-blocks-short (λ c κs. search rules) returns)
+pub weights_short_spec : {M : Type 1} → statement M
+weights_short_spec = tie.close (tie.spec (λ c κs. search rules) div-blocks-short (λ c κs. search rules) returns)

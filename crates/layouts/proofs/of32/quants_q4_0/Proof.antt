@@ -3,23 +3,23 @@ use mathlib.Core.Path.{refl}
 use Prim.Native.Nat.{◌+◌, ◌-◌, ◌*◌, ◌/◌}
 use lib.IntN.{pos}
 use lib.ListN.{replicate}
-use Rattle.numbers.proofs.Signed.{byte-read}
+use Rattle.numbers.proofs.Signed.{byte_read_lem}
 use native.Mathlib.Omega.{arith}
 use Rattle.layouts.specs.Of32.{quant32}
 use Rattle.layouts.specs.declared.format.Format32.TheVariants.{Q40}
-use Rattle.layouts.proofs.Two.{own-neighbours, Pairs, pairs-none, pairs-more, pairs-all}
-use Rattle.layouts.proofs.Quants.{beside-low, beside-high, q40-at}
+use Rattle.layouts.proofs.Two.{own_neighbours, Pairs, pairs_none, pairs_more, pairs_all}
+use Rattle.layouts.proofs.Quants.{beside_low, beside_high, q40_at}
 use Rattle.layouts.proofs.of32.quants_q4_0.Statement.{statement}
 use Rattle.layouts.proofs.of32.quants_q4_0.Tie as tie
 
 abbrev invariant-loop : tie.invariant-loop
-invariant-loop block q₀ k₀ k-end q k = Pairs 16 (λ i. i / 2) (quant32 Q40 block) (pos 0) q k
+invariant-loop block q₀ k₀ k_end q k = Pairs 16 (λ i. i / 2) (quant32 Q40 block) (pos 0) q k
 
 abbrev decreases-loop : tie.decreases-loop
-decreases-loop block q₀ k₀ k-end q k = 16 - k
+decreases-loop block q₀ k₀ k_end q k = 16 - k
 
 loop-holds : tie.Need-loop-init invariant-loop decreases-loop
-loop-holds c = pairs-none 16 (λ i. i / 2) (quant32 Q40 c.before.args.block.now) (pos 0) (replicate 32 (pos 0)) refl
+loop-holds c = pairs_none 16 (λ i. i / 2) (quant32 Q40 c.before.args.block.now) (pos 0) (replicate 32 (pos 0)) refl
 
 less-requires : tie.Need-less-requires invariant-loop decreases-loop
 less-requires c κs = omega arith
@@ -32,16 +32,16 @@ loop-again c =
     let m = c.before.before.before.before in
     let bs = m.before.before.args.block.now in
     let k = m.loop.k in
-    pairs-more 16 (λ i. i / 2) (quant32 Q40 bs) (pos 0) m.loop.q k _ _ (omega arith) (byte-read c.before.less.type-inv c.before.less.ensures (q40-at bs (2 * k) _ (beside-low bs 2 k))) (byte-read c.less2.type-inv c.less2.ensures (q40-at bs (2 * k + 1) _ (beside-high bs 2 k))) (λ a b i h. own-neighbours k a b i)
+    pairs_more 16 (λ i. i / 2) (quant32 Q40 bs) (pos 0) m.loop.q k _ _ (omega arith) (byte_read_lem c.before.less.type-inv c.before.less.ensures (q40_at bs (2 * k) _ (beside_low bs 2 k))) (byte_read_lem c.less2.type-inv c.less2.ensures (q40_at bs (2 * k + 1) _ (beside_high bs 2 k))) (λ a b i h. own_neighbours k a b i)
     m.loop.invariant
 
 returns : tie.Need-returns invariant-loop decreases-loop
 returns c =
     let l = c.before.loop in
-    pairs-all 16 (λ i. i / 2) (quant32 Q40 c.before.before.before.args.block.now) (pos 0) l.q l.k (omega (arith, c.loop-test.false)) (λ i h. omega arith) l.invariant
+    pairs_all 16 (λ i. i / 2) (quant32 Q40 c.before.before.before.args.block.now) (pos 0) l.q l.k (omega (arith, c.loop-test.false)) (λ i h. omega arith) l.invariant
 
-pub quants-q4-0-spec : {M : Type 1} → statement M
-quants-q4-0-spec =
+pub quants_q4_0_spec : {M : Type 1} → statement M
+quants_q4_0_spec =
     tie.close
     (tie.spec
     invariant-loop

@@ -9,8 +9,8 @@ returns c =
     let e : i + 2 + 1 ≡ i + 3 = omega arith in
     rw e c.le-u32.ensures
 
-pub bits-at-spec : {M : Type 1} → statement M
-bits-at-spec =
+pub bits_at_spec : {M : Type 1} → statement M
+bits_at_spec =
     tie.close
     (tie.spec
     (λ c. search rules)

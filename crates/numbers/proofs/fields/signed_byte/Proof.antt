@@ -1,7 +1,7 @@
 -- `fields::signed_byte` meets its contract. Assumes nothing.
 use Rattle.std.proofs.Common.{◌≡◌, ℕ, ◌-◌, ◌<◌, ◌≤◌, ℤ, negsuc, ◌-ℤ◌, sym, ap, ◌∙◌, arith, w8, SFits, to_z, rules}
 use mir.ValLaws.{to_z-of_z, to_z_pos}
-use Rattle.numbers.proofs.Signed.{signed_is, signed_high, below-zero}
+use Rattle.numbers.proofs.Signed.{signed_is, signed_high, below_zero}
 use Rattle.numbers.proofs.fields.signed_byte.Statement.{statement}
 use Rattle.numbers.proofs.fields.signed_byte.Tie as tie
 
@@ -16,7 +16,7 @@ cast-result-2 c = search rules
 
 -- what is taken off -1, and what is left
 high : (b : ℕ) → b < 256 → 128 ≤ b → negsuc 0 -ℤ to_z w8 (255 - b) ≡ negsuc (255 - b)
-high b l h = ap (λ (z : ℤ). negsuc 0 -ℤ z) (to_z_pos w8 (255 - b) (omega arith)) ∙ below-zero (255 - b)
+high b l h = ap (λ (z : ℤ). negsuc 0 -ℤ z) (to_z_pos w8 (255 - b) (omega arith)) ∙ below_zero (255 - b)
 
 fits : (b : ℕ) → b < 256 → 128 ≤ b → SFits w8 (negsuc 0 -ℤ to_z w8 (255 - b))
 fits b l h = rw (high b l h) (record { sfits = omega arith })
@@ -34,6 +34,6 @@ returns-2 c =
     let h = c.if1.false in
     to_z-of_z w8 _ (fits b l h) ∙ high b l h ∙ sym (signed_high b h)
 
-pub signed-byte-spec : {M : Type 1} → statement M
-signed-byte-spec =
+pub signed_byte_spec : {M : Type 1} → statement M
+signed_byte_spec =
     tie.close (tie.spec cast-result sub-result cast-result-2 sub-result-2 returns returns-2)

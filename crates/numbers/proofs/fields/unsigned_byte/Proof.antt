@@ -3,7 +3,7 @@ use Rattle.std.proofs.Common.{◌≡◌, ℕ, suc, ◌-◌, ◌<◌, ◌≤◌, 
 use lib.Signed.{mag, le_z, non_neg}
 use mir.ValLaws.{to_z-of_z}
 use Rattle.numbers.specs.Fields.{byte_of}
-use Rattle.numbers.proofs.Signed.{read_is, byteRead}
+use Rattle.numbers.proofs.Signed.{read_is, byte_read}
 use Rattle.numbers.proofs.fields.unsigned_byte.Statement.{statement}
 use Rattle.numbers.proofs.fields.unsigned_byte.Tie as tie
 
@@ -13,27 +13,27 @@ above (pos n) h e = (tt, record { fits = omega arith }, refl)
 above (negsuc n) h e = absurd (subst T (sym e) tt)
 
 -- of one below 0, what is left of -1 is the number's distance from it
-left-of : (z : ℤ) → mag z < 128 → le_z (pos 0) z ≡ false → (k : ℕ) × (z ≡ negsuc k) × (k < 128)
-left-of (pos n) h e = absurd (subst T (sym (le-leb 0 n zero-le) ∙ e) tt)
-left-of (negsuc k) h e = (k, refl, h)
+left_of : (z : ℤ) → mag z < 128 → le_z (pos 0) z ≡ false → (k : ℕ) × (z ≡ negsuc k) × (k < 128)
+left_of (pos n) h e = absurd (subst T (sym (le-leb 0 n zero-le) ∙ e) tt)
+left_of (negsuc k) h e = (k, refl, h)
 
-taken-off : (k : ℕ) → negsuc 0 -ℤ negsuc k ≡ pos k
-taken-off k =
+taken_off : (k : ℕ) → negsuc 0 -ℤ negsuc k ≡ pos k
+taken_off k =
     let l : 1 ≤ suc k = omega arith in
     let e : suc k - 1 ≡ k = omega arith in
     rw (le-ltb (suc k) 1 l, e)
 
-fits : (z : ℤ) → mag z < 128 → le_z (pos 0) (byteRead z) ≡ false → SFits w8 (negsuc 0 -ℤ byteRead z)
+fits : (z : ℤ) → mag z < 128 → le_z (pos 0) (byte_read z) ≡ false → SFits w8 (negsuc 0 -ℤ byte_read z)
 fits z f e =
     let r = read_is w8 z f in
-    let l = left-of z f (rw r at e) in
-    rw (r, l.1, taken-off l.0) (record { sfits = l.2 })
+    let l = left_of z f (rw r at e) in
+    rw (r, l.1, taken_off l.0) (record { sfits = l.2 })
 
-distance : (z : ℤ) → mag z < 128 → le_z (pos 0) (byteRead z) ≡ false → (k : ℕ) × (byteRead (negsuc 0 -ℤ byteRead z) ≡ pos k) × (z ≡ negsuc k) × (k < 128)
+distance : (z : ℤ) → mag z < 128 → le_z (pos 0) (byte_read z) ≡ false → (k : ℕ) × (byte_read (negsuc 0 -ℤ byte_read z) ≡ pos k) × (z ≡ negsuc k) × (k < 128)
 distance z f e =
     let r = read_is w8 z f in
-    let l = left-of z f (rw r at e) in
-    (l.0, to_z-of_z w8 _ (fits z f e) ∙ ap (λ (y : ℤ). negsuc 0 -ℤ y) (r ∙ l.1) ∙ taken-off l.0, l.1, l.2)
+    let l = left_of z f (rw r at e) in
+    (l.0, to_z-of_z w8 _ (fits z f e) ∙ ap (λ (y : ℤ). negsuc 0 -ℤ y) (r ∙ l.1) ∙ taken_off l.0, l.1, l.2)
 
 cast-result : tie.Need-overflow-cast-result
 cast-result c =
@@ -68,8 +68,8 @@ returns-2 c =
     let d = distance c.before.args.z c.before.ranges.z.sfits c.if1.false in
     ap (λ (y : ℤ). 255 - nat_abs y) d.1 ∙ sym (ap byte_of d.2)
 
-pub unsigned-byte-spec : {M : Type 1} → statement M
-unsigned-byte-spec =
+pub unsigned_byte_spec : {M : Type 1} → statement M
+unsigned_byte_spec =
     tie.close
     (tie.spec
     cast-result

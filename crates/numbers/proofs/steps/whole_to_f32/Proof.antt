@@ -1,5 +1,5 @@
 -- `steps::whole_to_f32` meets its contract. Assumes nothing.
-use Rattle.numbers.proofs.Halves.{upper_in, lower_in, halves-sum}
+use Rattle.numbers.proofs.Halves.{upper_in, lower_in, halves_sum}
 use Rattle.numbers.proofs.steps.whole_to_f32.Statement.{statement}
 use Rattle.numbers.proofs.steps.whole_to_f32.Tie as tie
 
@@ -10,7 +10,7 @@ int-to-float-result-2 : tie.Need-int-to-float-result-2
 int-to-float-result-2 c = lower_in c.before.before.args.n c.before.before.ranges.n.sfits
 
 returns : tie.Need-returns
-returns c = halves-sum c.before.before.args.n c.before.before.ranges.n.sfits
+returns c = halves_sum c.before.before.args.n c.before.before.ranges.n.sfits
 
-pub whole-to-f32-spec : {M : Type 1} → statement M
-whole-to-f32-spec = tie.close (tie.spec int-to-float-result int-to-float-result-2 returns)
+pub whole_to_f32_spec : {M : Type 1} → statement M
+whole_to_f32_spec = tie.close (tie.spec int-to-float-result int-to-float-result-2 returns)

@@ -6,7 +6,7 @@ use native.Mathlib.Omega.{arith}
 use denote.Enum.Declared.{tag_of}
 use lib.Ieee.{Float, of_bits, neg}
 use borrow.Author.Rules.{rules}
-use Rattle.quantizers.specs.Blocks.{scaleQ40, scale_of}
+use Rattle.quantizers.specs.Blocks.{scale_q40, scale_of}
 use Rattle.quantizers.specs.declared.target.Target.{Target}
 use Rattle.quantizers.specs.declared.target.Target.TheVariants.{Q40, Q40Ggml, Q80, Iq4Nl}
 use Rattle.quantizers.specs.contracts.target.Target.{the_type}
@@ -14,18 +14,18 @@ use Rattle.quantizers.proofs.block.scale_of.Statement.{statement}
 use Rattle.quantizers.proofs.block.scale_of.Tie as tie
 
 -- the arm of both orders of Q4_0
-of-q40 : (t : Target) (xs : List Float) → (tag_of the_type t ≡ 0) ⊎ (tag_of the_type t ≡ 1) → scaleQ40 xs ≡ scale_of t xs
+of_q40 : (t : Target) (xs : List Float) → (tag_of the_type t ≡ 0) ⊎ (tag_of the_type t ≡ 1) → scale_q40 xs ≡ scale_of t xs
 unfolding scale_of
-of-q40 Q40 xs h = refl
-of-q40 Q40Ggml xs h = refl
-of-q40 Q80 xs h = absurd (⊎_elim (λ e. omega arith) (λ e. omega arith) h)
-of-q40 (Iq4Nl s) xs h = absurd (⊎_elim (λ e. omega arith) (λ e. omega arith) h)
+of_q40 Q40 xs h = refl
+of_q40 Q40Ggml xs h = refl
+of_q40 Q80 xs h = absurd (⊎_elim (λ e. omega arith) (λ e. omega arith) h)
+of_q40 (Iq4Nl s) xs h = absurd (⊎_elim (λ e. omega arith) (λ e. omega arith) h)
 
 returns : tie.Need-returns
 unfolding neg of_bits
 returns c =
     let t = c.before.before.before in
-    rw (← of-q40 t.args.target t.args.x.now c.before.match.keys1, c.largest-value.ensures, t.requires)
+    rw (← of_q40 t.args.target t.args.x.now c.before.match.keys1, c.largest-value.ensures, t.requires)
 
 returns-2 : tie.Need-returns-2
 unfolding scale_of
@@ -35,8 +35,8 @@ returns-3 : tie.Need-returns-3
 unfolding scale_of
 returns-3 c = rw (c.f16-to-f32.ensures, c.before.before.target.given.1)
 
-pub scale-of-spec : {M : Type 1} → statement M
-scale-of-spec =
+pub scale_of_spec : {M : Type 1} → statement M
+scale_of_spec =
     tie.close
     (tie.spec
     (λ c κs. search rules)

@@ -4,7 +4,7 @@ use Prim.Native.Nat.{◌-◌}
 use mir.Syntax.{w8}
 use Rattle.numbers.specs.Fields.{byte_of}
 use Rattle.numbers.proofs.Signed.{read_is}
-use Rattle.memory.proofs.Filled.{Filling, filling-start, filling-more, filling-done}
+use Rattle.memory.proofs.Filled.{Filling, filling_start, filling_more, filling_done}
 use native.Mathlib.Omega.{arith}
 use borrow.Author.Rules.{rules}
 use Rattle.quantizers.specs.declared.target.Target.TheVariants.{Q80}
@@ -19,13 +19,13 @@ abbrev decreases-loop : tie.decreases-loop
 decreases-loop x inverse out₀ k₀ out k = 32 - k
 
 loop-holds : tie.Need-loop-init invariant-loop decreases-loop
-loop-holds c = filling-start (written Q80 c.before.before.args.x.now c.before.before.args.inverse) c.before.before.args.out.now 32 c.before.before.requires.1
+loop-holds c = filling_start (written Q80 c.before.before.args.x.now c.before.before.args.inverse) c.before.before.args.out.now 32 c.before.before.requires.1
 
 loop-again : tie.Need-loop-preserved invariant-loop decreases-loop
 loop-again c =
     let l = c.before.before.before.before.loop in
     let t = c.before.before.before.before.before.before.before in
-    filling-more (written Q80 t.args.x.now t.args.inverse) t.args.out.now 32 l.out l.k _ t.requires.1 l.invariant c.before.before.before.loop-test.true
+    filling_more (written Q80 t.args.x.now t.args.inverse) t.args.out.now 32 l.out l.k _ t.requires.1 l.invariant c.before.before.before.loop-test.true
     (c.unsigned-byte.ensures ∙ ap byte_of (read_is w8 _ c.before.round-q8.type-inv ∙ c.before.round-q8.ensures))
 
 same_length : tie.Need-same-length invariant-loop decreases-loop
@@ -35,10 +35,10 @@ returns : tie.Need-returns invariant-loop decreases-loop
 returns c =
     let l = c.before.loop in
     let t = c.before.before.before.before in
-    filling-done (written Q80 t.args.x.now t.args.inverse) t.args.out.now 32 l.out l.k t.requires.1 l.invariant c.loop-test.false
+    filling_done (written Q80 t.args.x.now t.args.inverse) t.args.out.now 32 l.out l.k t.requires.1 l.invariant c.loop-test.false
 
-pub write-quants-q8-0-spec : {M : Type 1} → statement M
-write-quants-q8-0-spec =
+pub write_quants_q8_0_spec : {M : Type 1} → statement M
+write_quants_q8_0_spec =
     tie.close
     (tie.spec
     invariant-loop

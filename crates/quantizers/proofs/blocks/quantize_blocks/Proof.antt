@@ -6,12 +6,12 @@ use native.Mathlib.Numerals.{add-one}
 use lib.ListN.{length, take, drop}
 use Rattle.memory.specs.Lists.{table, filled}
 use Rattle.memory.proofs.Filled.{part_length}
-use Rattle.memory.proofs.Parts.{part-within, InParts, parts_none, parts_more, parts-done}
+use Rattle.memory.proofs.Parts.{part_within, InParts, parts_none, parts_more, parts_done}
 use native.Mathlib.Omega.{arith}
 use borrow.Author.Rules.{rules}
 use Rattle.layouts.specs.Formats.{bytes32}
 use Rattle.quantizers.specs.Blocks.{format_of, byte_at}
-use Rattle.quantizers.specs.Lost.{counted, scaleFares, lostIn}
+use Rattle.quantizers.specs.Lost.{counted, scale_fares, lost_in}
 use Rattle.quantizers.specs.Says.{packed_at}
 use Rattle.quantizers.specs.declared.lost.Lost.{Lost}
 use Rattle.quantizers.proofs.Bytes.{placed}
@@ -20,7 +20,7 @@ use Rattle.quantizers.proofs.blocks.quantize_blocks.Statement.{statement}
 use Rattle.quantizers.proofs.blocks.quantize_blocks.Tie as tie
 
 abbrev invariant-loop : tie.invariant-loop
-invariant-loop target x out₀ size blocks lost₀ b₀ out lost b = InParts (packed_at target x) out₀ (λ k. k * size) blocks out b × (lost ≡ lostIn target x b)
+invariant-loop target x out₀ size blocks lost₀ b₀ out lost b = InParts (packed_at target x) out₀ (λ k. k * size) blocks out b × (lost ≡ lost_in target x b)
 
 abbrev decreases-loop : tie.decreases-loop
 decreases-loop target x out₀ size blocks lost₀ b₀ out lost b = blocks - b
@@ -30,7 +30,7 @@ size_is : (c : tie.After-block-bytes invariant-loop decreases-loop) → c.block-
 size_is c = c.block-bytes.ensures ∙ ap bytes32 c.before.format-of.ensures
 
 loop-holds : tie.Need-loop-init invariant-loop decreases-loop
-unfolding lostIn
+unfolding lost_in
 loop-holds c =
     let a = c.before.before.before.before.args in
     (parts_none (packed_at a.target a.x.now) a.out.now (λ k. k * c.block-bytes.result) _ (zero-mul _), refl)
@@ -44,7 +44,7 @@ facts : (c : tie.In-loop invariant-loop decreases-loop)
 facts c =
     let t = c.before.before.before.before.before.before in
     let size = c.before.before.block-bytes in
-    part-within c.before.loop.b 32 size.result (length t.args.x.now) (length t.args.out.now) c.loop-test.true (rw (size_is c.before.before) t.requires)
+    part_within c.before.loop.b 32 size.result (length t.args.x.now) (length t.args.out.now) c.loop-test.true (rw (size_is c.before.before) t.requires)
 
 mul-from : tie.Need-overflow-mul-from invariant-loop decreases-loop
 mul-from c = omega (arith, facts c)
@@ -117,7 +117,7 @@ loop-again c =
     let b = l.b in
     let g = byte_at u (take (b * 32 + 32 - b * 32) (drop (b * 32) xs)) in (
       parts_more (packed_at u xs) t.args.out.now (λ k. k * size) (length xs / 32) g l.out _ b size d.loop-test.true (rw add-one (suc-mul b size)) (facts d).1 (q.1 ∙ ap (table g) (sym S)) (λ i h. placed u xs b i size S h) l.invariant.0,
-      c.count.ensures ∙ ap (counted l.lost) q.0 ∙ ap (λ (n : Lost). counted n (scaleFares u (take (b * 32 + 32 - b * 32) (drop (b * 32) xs)))) l.invariant.1 ∙ one_more u xs b,
+      c.count.ensures ∙ ap (counted l.lost) q.0 ∙ ap (λ (n : Lost). counted n (scale_fares u (take (b * 32 + 32 - b * 32) (drop (b * 32) xs)))) l.invariant.1 ∙ one_more u xs b,
     )
 
 same_length : tie.Need-same-length invariant-loop decreases-loop
@@ -131,12 +131,12 @@ returns c =
     let xs = t.args.x.now in
     let size = c.before.before.block-bytes in
     let all : l.b ≡ length xs / 32 = omega (arith, c.loop-test.false, l.invariant.0.1) in (
-      l.invariant.1 ∙ ap (lostIn u xs) all,
-      parts-done (packed_at u xs) t.args.out.now (λ k. k * size.result) (length xs / 32) l.out l.b c.loop-test.false l.invariant.0 ∙ ap (filled (packed_at u xs) t.args.out.now) (rw (size_is c.before.before)),
+      l.invariant.1 ∙ ap (lost_in u xs) all,
+      parts_done (packed_at u xs) t.args.out.now (λ k. k * size.result) (length xs / 32) l.out l.b c.loop-test.false l.invariant.0 ∙ ap (filled (packed_at u xs) t.args.out.now) (rw (size_is c.before.before)),
     )
 
-pub quantize-blocks-spec : {M : Type 1} → statement M
-quantize-blocks-spec =
+pub quantize_blocks_spec : {M : Type 1} → statement M
+quantize_blocks_spec =
     tie.close
     (tie.spec
     invariant-loop

@@ -13,14 +13,14 @@ use Rattle.quantizers.proofs.lost.count.Statement.{statement}
 use Rattle.quantizers.proofs.lost.count.Tie as tie
 
 -- the arm of those that are exact or cut
-none-lost : (l : Lost) (h : How) → (tag_of the_type h ≡ 0) ⊎ (tag_of the_type h ≡ 1) → l ≡ counted l h
-none-lost l Exact e = refl
-none-lost l Cut e = refl
-none-lost l Flushed e = absurd (⊎_elim (λ f. omega arith) (λ f. omega arith) e)
-none-lost l SentToInfinity e = absurd (⊎_elim (λ f. omega arith) (λ f. omega arith) e)
+none_lost : (l : Lost) (h : How) → (tag_of the_type h ≡ 0) ⊎ (tag_of the_type h ≡ 1) → l ≡ counted l h
+none_lost l Exact e = refl
+none_lost l Cut e = refl
+none_lost l Flushed e = absurd (⊎_elim (λ f. omega arith) (λ f. omega arith) e)
+none_lost l SentToInfinity e = absurd (⊎_elim (λ f. omega arith) (λ f. omega arith) e)
 
 returns : tie.Need-returns
-returns c = none-lost c.before.args.lost c.before.args.how c.match.keys1
+returns c = none_lost c.before.args.lost c.before.args.how c.match.keys1
 
 returns-2 : tie.Need-returns-2
 returns-2 c = ap (counted c.before.before.before.args.lost) (sym c.before.enum_told.given.1)

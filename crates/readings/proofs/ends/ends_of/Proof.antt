@@ -5,7 +5,7 @@ use Prim.Native.Nat.{◌+◌, ◌-◌, ◌*◌, ◌/◌, ◌%◌, ◌≤◌}
 use native.Mathlib.Nat.{add-zero, add_assoc}
 use native.Mathlib.Omega.{arith}
 use lib.ListN.{length}
-use Rattle.readings.proofs.EightLanes.{Lanes, lanes-none, lanes-more, joined}
+use Rattle.readings.proofs.EightLanes.{Lanes, lanes_none, lanes_more, joined}
 use Rattle.readings.proofs.ends.ends_of.Statement.{statement}
 use Rattle.readings.proofs.ends.ends_of.Tie as tie
 
@@ -22,7 +22,7 @@ abbrev decreases-loop : tie.decreases-loop
 decreases-loop x whole high₀ low₀ i₀ high low i = whole - i
 
 loop-holds : tie.Need-loop-init invariant-loop2 decreases-loop2 invariant-loop decreases-loop
-loop-holds c = let x = c.before.args.x.now in (omega arith, refl, lanes-none false x, lanes-none true x)
+loop-holds c = let x = c.before.args.x.now in (omega arith, refl, lanes_none false x, lanes_none true x)
 
 loop2-holds : tie.Need-loop2-init invariant-loop2 decreases-loop2 invariant-loop decreases-loop
 loop2-holds c = let l = c.before.loop in (omega arith, rw add-zero l.invariant.2, rw add-zero l.invariant.3)
@@ -42,8 +42,8 @@ loop2-again c =
     let lane : j ≡ (i + j) % 8 = omega arith in
     let held = c.before.before.shared-slice-known2.given (i + j) in (
       omega arith,
-      rw (← add_assoc i j 1, c.before.larger-of.ensures) (lanes-more false x head.loop2.high (i + j) j lane held head.loop2.invariant.1),
-      rw (← add_assoc i j 1, c.smaller-of.ensures) (lanes-more true x head.loop2.low (i + j) j lane held head.loop2.invariant.2),
+      rw (← add_assoc i j 1, c.before.larger-of.ensures) (lanes_more false x head.loop2.high (i + j) j lane held head.loop2.invariant.1),
+      rw (← add_assoc i j 1, c.smaller-of.ensures) (lanes_more true x head.loop2.low (i + j) j lane held head.loop2.invariant.2),
     )
 
 loop-again : tie.Need-loop-preserved invariant-loop2 decreases-loop2 invariant-loop decreases-loop
@@ -73,8 +73,8 @@ returns c =
       c.ends_with.ensures.1 ∙ rw c.before.before.low-of-8.ensures (joined true x head.loop.low (length x / 8 * 8) whole inside known (rw all at head.loop.invariant.3)),
     )
 
-pub ends-of-spec : {M : Type 1} → statement M
-ends-of-spec =
+pub ends_of_spec : {M : Type 1} → statement M
+ends_of_spec =
     tie.close
     (tie.spec
     invariant-loop2

@@ -12,10 +12,10 @@ use Rattle.readings.proofs.ends.ends_with.Statement.{statement}
 use Rattle.readings.proofs.ends.ends_with.Tie as tie
 
 abbrev invariant-loop : tie.invariant-loop
-invariant-loop x high₀ low₀ i₀ i-end high low i = (i ≤ length x) × (i-end ≡ length x) × (high ≡ furthest false high₀ x i) × (low ≡ furthest true low₀ x i)
+invariant-loop x high₀ low₀ i₀ i_end high low i = (i ≤ length x) × (i_end ≡ length x) × (high ≡ furthest false high₀ x i) × (low ≡ furthest true low₀ x i)
 
 abbrev decreases-loop : tie.decreases-loop
-decreases-loop x high₀ low₀ i₀ i-end high low i = length x - i
+decreases-loop x high₀ low₀ i₀ i_end high low i = length x - i
 
 one_more : (s : Bool) (x : List Float) (i : ℕ) (a : Float) {b : Float} → b ≡ furthest s a x i → further s b (get_or x i nan) ≡ furthest s a x (i + 1)
 unfolding furthest
@@ -47,8 +47,8 @@ returns c =
     let e : c.before.loop.i ≡ length x = omega arith in
     (rw e at c.before.loop.invariant.2, rw e at c.before.loop.invariant.3)
 
-pub ends-with-spec : {M : Type 1} → statement M
-ends-with-spec =
+pub ends_with_spec : {M : Type 1} → statement M
+ends_with_spec =
     tie.close
     (tie.spec
     invariant-loop

@@ -13,8 +13,8 @@ returns c =
     tree_is false start.before.before.before.args.h.now
     start.larger-of.ensures half.before.larger-of2.ensures half.larger-of3.ensures pair.larger-of4.ensures c.before.before.larger-of5.ensures c.before.larger-of6.ensures c.larger-of7.ensures
 
-pub high-of-8-spec : {M : Type 1} → statement M
-high-of-8-spec =
+pub high_of_8_spec : {M : Type 1} → statement M
+high_of_8_spec =
     tie.close
     (tie.spec
     (λ c. search rules)

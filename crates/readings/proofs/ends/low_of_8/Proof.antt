@@ -13,8 +13,8 @@ returns c =
     tree_is true start.before.before.before.args.h.now
     start.smaller-of.ensures half.before.smaller-of2.ensures half.smaller-of3.ensures pair.smaller-of4.ensures c.before.before.smaller-of5.ensures c.before.smaller-of6.ensures c.smaller-of7.ensures
 
-pub low-of-8-spec : {M : Type 1} → statement M
-low-of-8-spec =
+pub low_of_8_spec : {M : Type 1} → statement M
+low_of_8_spec =
     tie.close
     (tie.spec
     (λ c. search rules)

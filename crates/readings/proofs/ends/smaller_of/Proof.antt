@@ -8,5 +8,5 @@ returns c = rw c.if1.true
 returns-2 : tie.Need-returns-2
 returns-2 c = rw c.if1.false
 
-pub smaller-of-spec : {M : Type 1} → statement M
-smaller-of-spec = tie.close (tie.spec returns returns-2)
+pub smaller_of_spec : {M : Type 1} → statement M
+smaller_of_spec = tie.close (tie.spec returns returns-2)

@@ -8,7 +8,7 @@ use lib.ListN.{length, get_or}
 use lib.Ieee.{Float, nan}
 use native.Mathlib.Omega.{arith}
 use borrow.Author.Rules.{rules}
-use Rattle.readings.proofs.FirstLargest.{reached, found, nothing-found}
+use Rattle.readings.proofs.FirstLargest.{reached, found, nothing_found}
 use Rattle.readings.proofs.magnitudes.first_of.Statement.{statement}
 use Rattle.readings.proofs.magnitudes.first_of.Tie as tie
 
@@ -17,10 +17,10 @@ abbrev Passed : List Float → Float → ℕ → Type 0
 Passed x most i = (j : ℕ) → j < i → reached (get_or x j nan) most ≡ false
 
 abbrev invariant-loop : tie.invariant-loop
-invariant-loop x most i₀ i-end i = (i ≤ length x) × Passed x most i
+invariant-loop x most i₀ i_end i = (i ≤ length x) × Passed x most i
 
 abbrev decreases-loop : tie.decreases-loop
-decreases-loop x most i₀ i-end i = length x - i
+decreases-loop x most i₀ i_end i = length x - i
 
 loop-holds : tie.Need-loop-init invariant-loop decreases-loop
 loop-holds c = (omega arith, below_none _)
@@ -45,10 +45,10 @@ returns-2 c =
     let start = c.before.before.before in
     let xs = start.args.x.now in
     let most = start.requires in
-    sym (nothing-found xs (length xs) (λ j h. c.before.before.shared-slice-known.given j) (λ j h. rw most at (l.invariant.1 j (omega arith))))
+    sym (nothing_found xs (length xs) (λ j h. c.before.before.shared-slice-known.given j) (λ j h. rw most at (l.invariant.1 j (omega arith))))
 
-pub first-of-spec : {M : Type 1} → statement M
-first-of-spec =
+pub first_of_spec : {M : Type 1} → statement M
+first_of_spec =
     tie.close
     (tie.spec
     invariant-loop

@@ -9,8 +9,8 @@ returns c = rw (← c.before.magnitude-of.ensures, c.if1.true)
 returns-2 : tie.Need-returns-2
 returns-2 c = rw (← c.before.magnitude-of.ensures, c.if1.false)
 
-pub reaches-spec : {M : Type 1} → statement M
-reaches-spec =
+pub reaches_spec : {M : Type 1} → statement M
+reaches_spec =
     tie.close
     (tie.spec
     (λ c κs. search rules)

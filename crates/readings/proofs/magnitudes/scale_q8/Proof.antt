@@ -8,5 +8,5 @@ returns : tie.Need-returns
 unfolding of_bits
 returns c = rw c.largest-magnitude.ensures
 
-pub scale-q8-spec : {M : Type 1} → statement M
-scale-q8-spec = tie.close (tie.spec (λ c κs. search rules) returns)
+pub scale_q8_spec : {M : Type 1} → statement M
+scale_q8_spec = tie.close (tie.spec (λ c κs. search rules) returns)

@@ -24,17 +24,17 @@ back : (n : ℕ) → n ≤ 256 → T (in_signed binary32 31 (of_int binary32 (po
 unfolding in_float
 back n h = positive_back binary32 31 n (le→leb n (2 ^ 24) (omega arith)) (omega arith)
 
-up-to : (w : ℕ) → w < 256 → (t : Bool) → w + cond t 1 0 ≤ 256
-up-to w h true = omega arith
-up-to w h false = omega arith
+up_to : (w : ℕ) → w < 256 → (t : Bool) → w + cond t 1 0 ≤ 256
+up_to w h true = omega arith
+up_to w h false = omega arith
 
 module _ {c : Float} (s : Whole c) where
-  cast-in : T (in_signed binary32 31 (near c))
-  cast-in = rw s.next-to (back _ (up-to s.w s.under (lt c (near c)))).0
+  cast_in : T (in_signed binary32 31 (near c))
+  cast_in = rw s.next_to (back _ (up_to s.w s.under (lt c (near c)))).0
 
   -- what the subtraction takes, ..
   cast_is : to_z w32 (of_z w32 (to_signed 31 (near c))) ≡ pos s.w +ℤ pos (cond (lt c (near c)) 1 0)
-  cast_is = read_is w32 _ (to_signed_in 31 (near c)) ∙ ap (to_signed 31) s.next-to ∙ (back _ (up-to s.w s.under (lt c (near c)))).1
+  cast_is = read_is w32 _ (to_signed_in 31 (near c)) ∙ ap (to_signed 31) s.next_to ∙ (back _ (up_to s.w s.under (lt c (near c)))).1
 
   -- .. and what it leaves
   left_over : {z : ℤ} → z ≡ pos (cond (lt c (near c)) 1 0) → to_z w32 (of_z w32 (to_signed 31 (near c))) -ℤ z ≡ pos s.w
@@ -42,15 +42,15 @@ module _ {c : Float} (s : Whole c) where
 
 float-to-int-result : tie.Need-float-to-int-result
 unfolding of_bits
-float-to-int-result c = cast-in (sized c)
+float-to-int-result c = cast_in (sized c)
 
 -- where the ways meet
-one-or-none : (c : tie.Joined1) → to_z w32 c.if1.result ≡ pos (cond (lt c.before.before.args.c (near c.before.before.args.c)) 1 0)
+one_or_none : (c : tie.Joined1) → to_z w32 c.if1.result ≡ pos (cond (lt c.before.before.args.c (near c.before.before.args.c)) 1 0)
 unfolding of_bits
-one-or-none c = ⊎_elim (λ w. rw (w.1, w.0.taken)) (λ w. rw (w.1, w.0.left)) c.if1.branch
+one_or_none c = ⊎_elim (λ w. rw (w.1, w.0.taken)) (λ w. rw (w.1, w.0.left)) c.if1.branch
 
 rest : (c : tie.Joined1) → to_z w32 (of_z w32 (to_signed 31 (near c.before.before.args.c))) -ℤ to_z w32 c.if1.result ≡ pos (sized c.before).w
-rest c = left_over (sized c.before) (one-or-none c)
+rest c = left_over (sized c.before) (one_or_none c)
 
 sub-result : tie.Need-overflow-sub-result
 unfolding of_bits
@@ -60,5 +60,5 @@ returns : tie.Need-returns
 unfolding of_bits
 returns c = rw (rest c) (read_is w32 _ (omega (arith, (sized c.before).under)) ∙ sym (sized c.before).is)
 
-pub small-whole-spec : {M : Type 1} → statement M
-small-whole-spec = tie.close (tie.spec float-to-int-result sub-result returns)
+pub small_whole_spec : {M : Type 1} → statement M
+small_whole_spec = tie.close (tie.spec float-to-int-result sub-result returns)

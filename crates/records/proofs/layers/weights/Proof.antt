@@ -19,8 +19,8 @@ returns-2 c =
     let p = c.before.before.args.p.now in
     take_all (length p - 9) (drop 9 p) (rw length-drop (omega arith))
 
-pub weights-spec : {M : Type 1} → statement M
-weights-spec =
+pub weights_spec : {M : Type 1} → statement M
+weights_spec =
     tie.close
     (tie.spec
     (λ c. search rules)

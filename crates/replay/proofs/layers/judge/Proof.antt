@@ -12,8 +12,8 @@ slice-aggregate-judge-memory-2 c = simp length-take (omega arith)
 slice-aggregate-judge-memory-3 : tie.Need-slice-aggregate-judge-memory-3
 slice-aggregate-judge-memory-3 c = simp length-take (omega arith)
 
-pub judge-spec : {M : Type 1} → statement M
-judge-spec =
+pub judge_spec : {M : Type 1} → statement M
+judge_spec =
     tie.close
     (tie.spec
     (λ c κs. search rules)

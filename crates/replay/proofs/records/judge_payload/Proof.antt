@@ -9,8 +9,8 @@ slice-aggregate-read-full c = simp length-take (omega arith)
 slice-aggregate-judge : tie.Need-slice-aggregate-judge
 slice-aggregate-judge c = simp (length-take, length-append, length-drop) (omega arith)
 
-pub judge-payload-spec : {M : Type 1} → statement M
-judge-payload-spec =
+pub judge_payload_spec : {M : Type 1} → statement M
+judge_payload_spec =
     tie.close
     (tie.spec
     (λ c. search rules)

@@ -9,8 +9,8 @@ slice-aggregate-judge-calls c = simp length-take (omega arith)
 slice-aggregate-judge-calls-2 : tie.Need-slice-aggregate-judge-calls-2
 slice-aggregate-judge-calls-2 c = simp length-take (omega arith)
 
-pub judge-history-spec : {M : Type 1} → statement M
-judge-history-spec =
+pub judge_history_spec : {M : Type 1} → statement M
+judge_history_spec =
     tie.close
     (tie.spec
     (λ c κs. search rules)

@@ -12,8 +12,8 @@ decreases-loop l w x named slots₀ marks₀ count k₀ slots marks k = count - 
 loop-holds : tie.Need-loop-init invariant-loop decreases-loop
 loop-holds c = (refl, refl)
 
-pub pieces-accepted-spec : {M : Type 1} → statement M
-pieces-accepted-spec =
+pub pieces_accepted_spec : {M : Type 1} → statement M
+pieces_accepted_spec =
     tie.close
     (tie.spec
     invariant-loop

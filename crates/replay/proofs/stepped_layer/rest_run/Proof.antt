@@ -12,8 +12,8 @@ decreases-loop l w x slots₀ marks₀ turns₀ slots marks turns = 16 - turns
 loop-holds : tie.Need-loop-init invariant-loop decreases-loop
 loop-holds c = (refl, refl)
 
-pub rest-run-spec : {M : Type 1} → statement M
-rest-run-spec =
+pub rest_run_spec : {M : Type 1} → statement M
+rest_run_spec =
     tie.close
     (tie.spec
     invariant-loop

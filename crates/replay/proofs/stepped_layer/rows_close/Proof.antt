@@ -12,8 +12,8 @@ decreases-loop l slots marks y₀ row₀ y row = length y₀ - row
 loop-holds : tie.Need-loop-init invariant-loop decreases-loop
 loop-holds c = refl
 
-pub rows-close-spec : {M : Type 1} → statement M
-rows-close-spec =
+pub rows_close_spec : {M : Type 1} → statement M
+rows_close_spec =
     tie.close
     (tie.spec
     invariant-loop

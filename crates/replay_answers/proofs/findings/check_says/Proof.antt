@@ -9,5 +9,5 @@ returns c = rw c.enum_told.given.1
 returns-2 : tie.Need-returns-2
 returns-2 c = rw c.before.before.ours.given.1
 
-pub check-says-spec : {M : Type 1} → statement M
-check-says-spec = tie.close (tie.spec (λ c. search rules) (λ c. search rules) returns returns-2)
+pub check_says_spec : {M : Type 1} → statement M
+check_says_spec = tie.close (tie.spec (λ c. search rules) (λ c. search rules) returns returns-2)

@@ -13,7 +13,7 @@ returns-2 c = rw (c.before.before.ours.given.1, ne_eqb _ 0 c.if1.false)
 returns-3 : tie.Need-returns-3
 returns-3 c = rw c.before.before.ours2.given.1
 
-pub same-answer-spec : {M : Type 1} → statement M
-same-answer-spec =
+pub same_answer_spec : {M : Type 1} → statement M
+same_answer_spec =
     tie.close
     (tie.spec (λ c. search rules) (λ c κs. search rules) (λ c. search rules) returns returns-2 returns-3)

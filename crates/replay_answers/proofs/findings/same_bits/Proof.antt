@@ -6,5 +6,5 @@ use Rattle.replay_answers.proofs.findings.same_bits.Tie as tie
 returns : tie.Need-returns
 returns c = rw (c.before.bits_of.ensures, c.bits-of2.ensures)
 
-pub same-bits-spec : {M : Type 1} → statement M
-same-bits-spec = tie.close (tie.spec (λ c κs. search rules) (λ c κs. search rules) returns)
+pub same_bits_spec : {M : Type 1} → statement M
+same_bits_spec = tie.close (tie.spec (λ c κs. search rules) (λ c κs. search rules) returns)

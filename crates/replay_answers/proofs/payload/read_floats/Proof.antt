@@ -4,7 +4,7 @@ use Prim.Native.Nat.{◌-◌}
 use native.Mathlib.Omega.{arith}
 use lib.ListN.{length, length-set}
 use lib.Ieee.{binary32, of_bits}
-use Rattle.memory.proofs.Filled.{Filling, filling-start, filling-more, filling-done}
+use Rattle.memory.proofs.Filled.{Filling, filling_start, filling_more, filling_done}
 use Rattle.replay_answers.specs.Payload.{float_at}
 use borrow.Author.Rules.{rules}
 use Rattle.replay_answers.proofs.payload.read_floats.Statement.{statement}
@@ -17,7 +17,7 @@ abbrev decreases-loop : tie.decreases-loop
 decreases-loop payload out₀ i₀ out i = length out - i
 
 loop-holds : tie.Need-loop-init invariant-loop decreases-loop
-loop-holds c = filling-start _ _ _ refl
+loop-holds c = filling_start _ _ _ refl
 
 mul-u32-at : tie.Need-overflow-mul-u32-at invariant-loop decreases-loop
 mul-u32-at c = search rules
@@ -29,14 +29,14 @@ loop-again : tie.Need-loop-preserved invariant-loop decreases-loop
 unfolding float_at
 loop-again c =
     let t = c.before.before.before in
-    filling-more _ _ _ _ _ _ refl t.loop.invariant (omega arith)
+    filling_more _ _ _ _ _ _ refl t.loop.invariant (omega arith)
     (c.of-bits.ensures ∙ ap (of_bits binary32) c.before.u32-at.ensures)
 
 returns : tie.Need-returns invariant-loop decreases-loop
-returns c = filling-done _ _ _ _ _ refl c.before.loop.invariant (omega arith)
+returns c = filling_done _ _ _ _ _ refl c.before.loop.invariant (omega arith)
 
-pub read-floats-spec : {M : Type 1} → statement M
-read-floats-spec =
+pub read_floats_spec : {M : Type 1} → statement M
+read_floats_spec =
     tie.close
     (tie.spec
     invariant-loop

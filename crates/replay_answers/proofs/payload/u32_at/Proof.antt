@@ -31,8 +31,8 @@ returns-3 c =
     let e : a.at + 2 + 1 ≡ a.at + 3 = omega arith in
     rw (le-leb _ _ h, e) c.le-u32.ensures
 
-pub u32-at-spec : {M : Type 1} → statement M
-u32-at-spec =
+pub u32_at_spec : {M : Type 1} → statement M
+u32_at_spec =
     tie.close
     (tie.spec
     returns

@@ -28,8 +28,8 @@ judge-block-requires c κs = tt
 returns-3 : tie.Need-returns-3
 returns-3 c = tt
 
-pub judge-quantize-block-q8-spec : {M : Type 1} → statement M
-judge-quantize-block-q8-spec =
+pub judge_quantize_block_q8_spec : {M : Type 1} → statement M
+judge_quantize_block_q8_spec =
     tie.close
     (tie.spec
     u32-at-requires

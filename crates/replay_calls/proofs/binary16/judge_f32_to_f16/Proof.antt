@@ -7,8 +7,8 @@ use Rattle.replay_calls.proofs.binary16.judge_f32_to_f16.Tie as tie
 cast-fared : tie.Need-overflow-cast-fared
 cast-fared c = omega (arith, c.shared-slice-known8.given 6)
 
-pub judge-f32-to-f16-spec : {M : Type 1} → statement M
-judge-f32-to-f16-spec =
+pub judge_f32_to_f16_spec : {M : Type 1} → statement M
+judge_f32_to_f16_spec =
     tie.close
     (tie.spec
     (λ c. search rules)

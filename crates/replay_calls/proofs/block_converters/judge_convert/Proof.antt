@@ -28,8 +28,8 @@ judge-output-requires c κs = tt
 returns-3 : tie.Need-returns-3
 returns-3 c = tt
 
-pub judge-convert-spec : {M : Type 1} → statement M
-judge-convert-spec =
+pub judge_convert_spec : {M : Type 1} → statement M
+judge_convert_spec =
     tie.close
     (tie.spec
     u32-at-requires

@@ -28,8 +28,8 @@ judge-output-requires c κs = tt
 returns-3 : tie.Need-returns-3
 returns-3 c = tt
 
-pub judge-dequantize-spec : {M : Type 1} → statement M
-judge-dequantize-spec =
+pub judge_dequantize_spec : {M : Type 1} → statement M
+judge_dequantize_spec =
     tie.close
     (tie.spec
     u32-at-requires

@@ -37,8 +37,8 @@ judge-output-requires c κs = tt
 returns-4 : tie.Need-returns-4
 returns-4 c = tt
 
-pub judge-quantize-spec : {M : Type 1} → statement M
-judge-quantize-spec =
+pub judge_quantize_spec : {M : Type 1} → statement M
+judge_quantize_spec =
     tie.close
     (tie.spec
     u32-at-requires

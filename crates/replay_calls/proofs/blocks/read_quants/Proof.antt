@@ -25,8 +25,8 @@ loop-again c = tt
 returns : tie.Need-returns invariant-loop decreases-loop
 returns c = tt
 
-pub read-quants-spec : {M : Type 1} → statement M
-read-quants-spec =
+pub read_quants_spec : {M : Type 1} → statement M
+read_quants_spec =
     tie.close
     (tie.spec
     invariant-loop

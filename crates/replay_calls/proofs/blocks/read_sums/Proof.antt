@@ -25,8 +25,8 @@ loop-again c = tt
 returns : tie.Need-returns invariant-loop decreases-loop
 returns c = tt
 
-pub read-sums-spec : {M : Type 1} → statement M
-read-sums-spec =
+pub read_sums_spec : {M : Type 1} → statement M
+read_sums_spec =
     tie.close
     (tie.spec
     invariant-loop

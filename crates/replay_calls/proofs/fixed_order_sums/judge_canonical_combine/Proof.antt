@@ -28,8 +28,8 @@ judge-list-requires c κs = tt
 returns-3 : tie.Need-returns-3
 returns-3 c = tt
 
-pub judge-canonical-combine-spec : {M : Type 1} → statement M
-judge-canonical-combine-spec =
+pub judge_canonical_combine_spec : {M : Type 1} → statement M
+judge_canonical_combine_spec =
     tie.close
     (tie.spec
     u32-at-requires

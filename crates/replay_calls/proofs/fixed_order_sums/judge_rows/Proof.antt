@@ -46,8 +46,8 @@ of-answer-requires c κs = tt
 returns-4 : tie.Need-returns-4
 returns-4 c = tt
 
-pub judge-rows-spec : {M : Type 1} → statement M
-judge-rows-spec =
+pub judge_rows_spec : {M : Type 1} → statement M
+judge_rows_spec =
     tie.close
     (tie.spec
     u32-at-requires

@@ -40,8 +40,8 @@ judge-output-requires c κs = tt
 returns-5 : tie.Need-returns-5
 returns-5 c = tt
 
-pub judge-given-spec : {M : Type 1} → statement M
-judge-given-spec =
+pub judge_given_spec : {M : Type 1} → statement M
+judge_given_spec =
     tie.close
     (tie.spec
     u32-at-requires

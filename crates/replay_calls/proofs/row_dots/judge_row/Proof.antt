@@ -40,8 +40,8 @@ of-answer-requires c κs = tt
 returns-3 : tie.Need-returns-3
 returns-3 c = tt
 
-pub judge-row-spec : {M : Type 1} → statement M
-judge-row-spec =
+pub judge_row_spec : {M : Type 1} → statement M
+judge_row_spec =
     tie.close
     (tie.spec
     u32-at-requires

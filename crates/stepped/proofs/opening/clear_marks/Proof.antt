@@ -3,31 +3,31 @@ use native.Mathlib.Omega.{arith}
 use mathlib.Core.Path.{refl}
 use Prim.Native.Nat.{◌-◌}
 use lib.ListN.{length}
-use Rattle.memory.proofs.Filled.{Filling, filling-start, filling-more, filling-done}
-use Rattle.stepped.specs.Says.{noMark}
+use Rattle.memory.proofs.Filled.{Filling, filling_start, filling_more, filling_done}
+use Rattle.stepped.specs.Says.{no_mark}
 use Rattle.stepped.proofs.opening.clear_marks.Statement.{statement}
 use Rattle.stepped.proofs.opening.clear_marks.Tie as tie
 
 abbrev invariant-loop : tie.invariant-loop
-invariant-loop marks₀ i₀ marks i = Filling noMark marks₀ (length marks₀) marks i
+invariant-loop marks₀ i₀ marks i = Filling no_mark marks₀ (length marks₀) marks i
 
 abbrev decreases-loop : tie.decreases-loop
 decreases-loop marks₀ i₀ marks i = length marks₀ - i
 
 loop-holds : tie.Need-loop-init invariant-loop decreases-loop
-loop-holds c = filling-start noMark _ _ refl
+loop-holds c = filling_start no_mark _ _ refl
 
 loop-again : tie.Need-loop-preserved invariant-loop decreases-loop
-loop-again c = let k = c.before.loop in filling-more noMark _ _ k.marks k.i _ refl k.invariant (omega arith) refl
+loop-again c = let k = c.before.loop in filling_more no_mark _ _ k.marks k.i _ refl k.invariant (omega arith) refl
 
 same_length : tie.Need-same-length invariant-loop decreases-loop
 same_length c = c.before.loop.invariant.2
 
 returns : tie.Need-returns invariant-loop decreases-loop
-returns c = let k = c.before.loop in filling-done noMark _ _ k.marks k.i refl k.invariant (omega arith)
+returns c = let k = c.before.loop in filling_done no_mark _ _ k.marks k.i refl k.invariant (omega arith)
 
-pub clear-marks-spec : {M : Type 1} → statement M
-clear-marks-spec =
+pub clear_marks_spec : {M : Type 1} → statement M
+clear_marks_spec =
     tie.close
     (tie.spec
     invariant-loop

@@ -3,31 +3,31 @@ use native.Mathlib.Omega.{arith}
 use mathlib.Core.Path.{refl}
 use Prim.Native.Nat.{◌-◌}
 use lib.ListN.{length}
-use Rattle.memory.proofs.Filled.{Filling, filling-start, filling-more, filling-done}
-use Rattle.stepped.specs.Says.{noSum}
+use Rattle.memory.proofs.Filled.{Filling, filling_start, filling_more, filling_done}
+use Rattle.stepped.specs.Says.{no_sum}
 use Rattle.stepped.proofs.opening.clear_slots.Statement.{statement}
 use Rattle.stepped.proofs.opening.clear_slots.Tie as tie
 
 abbrev invariant-loop : tie.invariant-loop
-invariant-loop slots₀ i₀ slots i = Filling noSum slots₀ (length slots₀) slots i
+invariant-loop slots₀ i₀ slots i = Filling no_sum slots₀ (length slots₀) slots i
 
 abbrev decreases-loop : tie.decreases-loop
 decreases-loop slots₀ i₀ slots i = length slots₀ - i
 
 loop-holds : tie.Need-loop-init invariant-loop decreases-loop
-loop-holds c = filling-start noSum _ _ refl
+loop-holds c = filling_start no_sum _ _ refl
 
 loop-again : tie.Need-loop-preserved invariant-loop decreases-loop
-loop-again c = let k = c.before.loop in filling-more noSum _ _ k.slots k.i _ refl k.invariant (omega arith) refl
+loop-again c = let k = c.before.loop in filling_more no_sum _ _ k.slots k.i _ refl k.invariant (omega arith) refl
 
 same_length : tie.Need-same-length invariant-loop decreases-loop
 same_length c = c.before.loop.invariant.2
 
 returns : tie.Need-returns invariant-loop decreases-loop
-returns c = let k = c.before.loop in filling-done noSum _ _ k.slots k.i refl k.invariant (omega arith)
+returns c = let k = c.before.loop in filling_done no_sum _ _ k.slots k.i refl k.invariant (omega arith)
 
-pub clear-slots-spec : {M : Type 1} → statement M
-clear-slots-spec =
+pub clear_slots_spec : {M : Type 1} → statement M
+clear_slots_spec =
     tie.close
     (tie.spec
     invariant-loop

@@ -6,16 +6,16 @@ use mathlib.Core.Path.{◌≡◌, refl, sym, ◌∙◌, ap}
 use Prim.Native.Nat.{◌≤◌, ◌<◌, ◌-◌}
 use Rattle.stepped_shape.specs.Layer.{memory}
 use Rattle.stepped_shape.specs.Inner.{InLayer}
-use Rattle.stepped_shape.proofs.Shapes.{place-within}
-use Rattle.stepped.specs.Says.{work, visitRow, visitRows, runWork}
-use Rattle.stepped.proofs.Runs.{Kept, kept-open, kept-done, kept_row, stopped, ne-lt}
+use Rattle.stepped_shape.proofs.Shapes.{place_within}
+use Rattle.stepped.specs.Says.{work, visit_row, visit_rows, run_work}
+use Rattle.stepped.proofs.Runs.{Kept, kept_open, kept_done, kept_row, stopped, ne_lt}
 use Rattle.stepped.proofs.running.work_open.Statement.{statement}
 use Rattle.stepped.proofs.running.work_open.Tie as tie
 
 abbrev invariant-loop : tie.invariant-loop
 invariant-loop format l w x budget slots₀ marks₀ rows chunks done₀ row chunk₀ slots marks done chunk =
     let m = memory slots₀ marks₀ in
-    (chunk ≤ chunks) × Kept budget m (work (memory slots marks) done) (visitRow format l w x budget row chunk (work m done₀))
+    (chunk ≤ chunks) × Kept budget m (work (memory slots marks) done) (visit_row format l w x budget row chunk (work m done₀))
 
 abbrev decreases-loop : tie.decreases-loop
 decreases-loop format l w x budget slots₀ marks₀ rows chunks done₀ row chunk₀ slots marks done chunk = chunks - chunk
@@ -23,18 +23,18 @@ decreases-loop format l w x budget slots₀ marks₀ rows chunks done₀ row chu
 abbrev invariant-rows : tie.invariant-rows
 invariant-rows format l w x budget slots₀ marks₀ rows chunks done₀ row₀ slots marks done row =
     let m = memory slots₀ marks₀ in
-    (row ≤ rows) × Kept budget m (work (memory slots marks) done) (visitRows format l w x budget row (work m 0))
+    (row ≤ rows) × Kept budget m (work (memory slots marks) done) (visit_rows format l w x budget row (work m 0))
 
 abbrev decreases-rows : tie.decreases-rows
 decreases-rows format l w x budget slots₀ marks₀ rows chunks done₀ row₀ slots marks done row = rows - row
 
 rows-holds : tie.Need-rows-init invariant-loop decreases-loop invariant-rows decreases-rows
-unfolding visitRows
-rows-holds c = (omega arith, record { slots_len = refl; marks-len = refl; few = omega arith; state = refl })
+unfolding visit_rows
+rows-holds c = (omega arith, record { slots_len = refl; marks_len = refl; few = omega arith; state = refl })
 
 loop-holds : tie.Need-loop-init invariant-loop decreases-loop invariant-rows decreases-rows
-unfolding visitRow
-loop-holds c = (omega arith, record { slots_len = refl; marks-len = refl; few = c.before.rows.invariant.1.few; state = refl })
+unfolding visit_row
+loop-holds c = (omega arith, record { slots_len = refl; marks_len = refl; few = c.before.rows.invariant.1.few; state = refl })
 
 -- the places, back from the first test in the inner loop
 abbrev start : tie.Else1 invariant-loop decreases-loop invariant-rows decreases-rows → tie.Start invariant-loop decreases-loop invariant-rows decreases-rows
@@ -50,7 +50,7 @@ inside : (c : tie.Else1 invariant-loop decreases-loop invariant-rows decreases-r
 inside c = record { row_in = c.before.before.before.rows-test.true; chunk_in = omega (arith, (outer c).before.chunks_of.ensures, c.before.loop-test.true) }
 
 fewer : (c : tie.Else1 invariant-loop decreases-loop invariant-rows decreases-rows) → (inner c).loop.done < (start c).args.budget
-fewer c = ne-lt _ _ (inner c).loop.invariant.1.few c.if1.false
+fewer c = ne_lt _ _ (inner c).loop.invariant.1.few c.if1.false
 
 place-of-requires : tie.Need-place-of-requires invariant-loop decreases-loop invariant-rows decreases-rows
 place-of-requires c κs = ((start c).requires.0.shape, inside c)
@@ -58,7 +58,7 @@ place-of-requires c κs = ((start c).requires.0.shape, inside c)
 slice-read-if2 : tie.Need-slice-read-if2 invariant-loop decreases-loop invariant-rows decreases-rows
 slice-read-if2 c =
     let e = c.before.before in
-    omega (arith, c.before.place_of.ensures, place-within _ _ _ (inside e), (start e).requires.1.marks-enough, (inner e).loop.invariant.1.marks-len, (outer e).rows.invariant.1.marks-len)
+    omega (arith, c.before.place_of.ensures, place_within _ _ _ (inside e), (start e).requires.1.marks_enough, (inner e).loop.invariant.1.marks_len, (outer e).rows.invariant.1.marks_len)
 
 work-one-requires : tie.Need-work-one-requires invariant-loop decreases-loop invariant-rows decreases-rows
 work-one-requires c κs =
@@ -66,8 +66,8 @@ work-one-requires c κs =
     let p = (start e).requires in (
       p.0,
       record {
-        slots-enough = omega (arith, p.1.slots-enough, (inner e).loop.invariant.1.slots_len, (outer e).rows.invariant.1.slots_len);
-        marks-enough = omega (arith, p.1.marks-enough, (inner e).loop.invariant.1.marks-len, (outer e).rows.invariant.1.marks-len);
+        slots_enough = omega (arith, p.1.slots_enough, (inner e).loop.invariant.1.slots_len, (outer e).rows.invariant.1.slots_len);
+        marks_enough = omega (arith, p.1.marks_enough, (inner e).loop.invariant.1.marks_len, (outer e).rows.invariant.1.marks_len);
       },
       inside e,
     )
@@ -89,9 +89,9 @@ loop-again c =
       omega arith,
       ⊎_elim
           (λ q. simp (q.8, q.9, q.10, q.3.ensures)
-          (kept-open a.format a.l a.w.now a.x.now a.budget b.holds k o.row i.chunk b i.inv.1 (fewer e) (simp at at q.0.taken)))
+          (kept_open a.format a.l a.w.now a.x.now a.budget b.holds k o.row i.chunk b i.inv.1 (fewer e) (simp at at q.0.taken)))
           (λ q. simp (q.1, q.2, q.3)
-          (kept-done a.format a.l a.w.now a.x.now a.budget b.holds k o.row i.chunk b i.inv.1 (fewer e) (simp at at q.0.left)))
+          (kept_done a.format a.l a.w.now a.x.now a.budget b.holds k o.row i.chunk b i.inv.1 (fewer e) (simp at at q.0.left)))
           c.if2.branch,
     )
 
@@ -110,10 +110,10 @@ same_length : tie.Need-same-length invariant-loop decreases-loop invariant-rows 
 same_length c = c.before.rows.invariant.1.slots_len
 
 same-length-2 : tie.Need-same-length-2 invariant-loop decreases-loop invariant-rows decreases-rows
-same-length-2 c = c.before.rows.invariant.1.marks-len
+same-length-2 c = c.before.rows.invariant.1.marks_len
 
 returns : tie.Need-returns invariant-loop decreases-loop invariant-rows decreases-rows
-unfolding runWork
+unfolding run_work
 returns c =
     let o = c.before in
     let full : o.rows.row ≡ o.before.before.before.before.before.before.args.l.out_feat = omega arith in
@@ -123,21 +123,21 @@ same-length-3 : tie.Need-same-length-3 invariant-loop decreases-loop invariant-r
 same-length-3 c = c.before.before.loop.invariant.1.slots_len ∙ c.before.before.before.before.rows.invariant.1.slots_len
 
 same-length-4 : tie.Need-same-length-4 invariant-loop decreases-loop invariant-rows decreases-rows
-same-length-4 c = c.before.before.loop.invariant.1.marks-len ∙ c.before.before.before.before.rows.invariant.1.marks-len
+same-length-4 c = c.before.before.loop.invariant.1.marks_len ∙ c.before.before.before.before.rows.invariant.1.marks_len
 
 returns-2 : tie.Need-returns-2 invariant-loop decreases-loop invariant-rows decreases-rows
-unfolding runWork
+unfolding run_work
 returns-2 c =
     let i = c.before.before in
     let o = i.before.before in
     let a = o.before.before.before.before.before.before.args in
-    let e = i.loop.invariant.1.state ∙ ap (visitRow a.format a.l a.w.now a.x.now a.budget o.rows.row i.loop.chunk) o.rows.invariant.1.state in
+    let e = i.loop.invariant.1.state ∙ ap (visit_row a.format a.l a.w.now a.x.now a.budget o.rows.row i.loop.chunk) o.rows.invariant.1.state in
     sym
     (stopped a.format a.l a.w.now a.x.now a.budget _ (omega arith) a.l.out_feat o.rows.row i.loop.chunk _
     (omega arith) (omega (arith, o.before.chunks_of.ensures)) (sym e))
 
-pub work-open-spec : {M : Type 1} → statement M
-work-open-spec =
+pub work_open_spec : {M : Type 1} → statement M
+work_open_spec =
     tie.close
     (tie.spec
     invariant-loop

@@ -24,8 +24,8 @@ same-length-2 c = search rules
 returns : tie.Need-returns
 returns c = let at = c.before.place_of.ensures.0 in simp (at, c.chunk-sum.ensures)
 
-pub work-one-spec : {M : Type 1} → statement M
-work-one-spec =
+pub work_one_spec : {M : Type 1} → statement M
+work_one_spec =
     tie.close
     (tie.spec
     place-of-requires

@@ -8,11 +8,11 @@ use lib.ListN.{length, get_or, take, drop}
 use lib.Seq.{take_at, length-take-le}
 use lib.Ieee.{Float, nan}
 use Rattle.memory.specs.Lists.{table, filled}
-use Rattle.memory.proofs.Filled.{length-table, Filling, filling-start, filling-more}
-use Rattle.sums_tree.specs.Tree.{pairUp, met, tree}
+use Rattle.memory.proofs.Filled.{length_table, Filling, filling_start, filling_more}
+use Rattle.sums_tree.specs.Tree.{pair_up, met, tree}
 use Rattle.stepped_shape.specs.Layer.{chunks, pieces, place}
-use Rattle.stepped_shape.proofs.Shapes.{row_within, few-chunks, few-pieces}
-use Rattle.stepped_pieces.specs.Pieces.{rowMet}
+use Rattle.stepped_shape.proofs.Shapes.{row_within, few_chunks, few_pieces}
+use Rattle.stepped_pieces.specs.Pieces.{row_met}
 use Rattle.stepped_pieces.proofs.rows.meet.Statement.{statement}
 use Rattle.stepped_pieces.proofs.rows.meet.Tie as tie
 
@@ -31,7 +31,7 @@ row_in : (c : tie.After-chunks-of invariant-loop decreases-loop) → let a = c.b
 row_in c =
     let t = c.before.before in
     let r : t.args.row * c.chunks_of.result + c.chunks_of.result ≤ pieces t.args.l = simp c.chunks_of.ensures (row_within t.args.l t.args.row t.requires.1) in
-    (omega (arith, r, t.requires.2), omega (arith, c.chunks_of.ensures, few-chunks _ t.requires.0), few-pieces _ t.requires.0)
+    (omega (arith, r, t.requires.2), omega (arith, c.chunks_of.ensures, few_chunks _ t.requires.0), few_pieces _ t.requires.0)
 
 mul_at : tie.Need-overflow-mul-at invariant-loop decreases-loop
 mul_at c = omega (arith, row_in c)
@@ -43,26 +43,26 @@ shared-slice-read-result : tie.Need-shared-slice-read-result invariant-loop decr
 shared-slice-read-result c = omega (arith, row_in c.before.before)
 
 -- one value is its own tree
-tree-of-one : (f : ℕ → Float) (n : ℕ) → n ≡ 1 → tree (table f n) ≡ f 0
-unfolding tree met pairUp table
-tree-of-one f n e = rw e refl
+tree_of_one : (f : ℕ → Float) (n : ℕ) → n ≡ 1 → tree (table f n) ≡ f 0
+unfolding tree met pair_up table
+tree_of_one f n e = rw e refl
 
 -- the front of a list that is filled so far
-filled-front : (f : ℕ → Float) (xs ys : List Float) (i n : ℕ) → i ≡ n → ys ≡ filled f xs i → take n ys ≡ table f n
-filled-front f xs ys i n e h = ap (take n) (h ∙ ap (filled f xs) e) ∙ take_at (table f n) (drop n xs) n (length-table f n)
+filled_front : (f : ℕ → Float) (xs ys : List Float) (i n : ℕ) → i ≡ n → ys ≡ filled f xs i → take n ys ≡ table f n
+filled_front f xs ys i n e h = ap (take n) (h ∙ ap (filled f xs) e) ∙ take_at (table f n) (drop n xs) n (length_table f n)
 
 returns : tie.Need-returns invariant-loop decreases-loop
-unfolding rowMet place
+unfolding row_met place
 returns c =
     let k = c.before.before in
     let a = k.before.before.args in
     let n = k.chunks_of in
     sym
-    (tree-of-one (λ i. get_or a.slots.now (a.row * chunks a.l + i) nan) (chunks a.l) (sym n.ensures ∙ c.before.if1.true)
+    (tree_of_one (λ i. get_or a.slots.now (a.row * chunks a.l + i) nan) (chunks a.l) (sym n.ensures ∙ c.before.if1.true)
     ∙ ap (λ (i : ℕ). get_or a.slots.now i nan) (add-zero (a.row * chunks a.l) ∙ ap (λ (m : ℕ). a.row * m) (sym n.ensures)))
 
 loop-holds : tie.Need-loop-init invariant-loop decreases-loop
-loop-holds c = (omega arith, filling-start _ _ 16 refl)
+loop-holds c = (omega arith, filling_start _ _ 16 refl)
 
 add-sums : tie.Need-overflow-add-sums invariant-loop decreases-loop
 add-sums c = omega (arith, row_in c.before.before.before)
@@ -85,7 +85,7 @@ add-c c = omega (arith, row_in c.before.before.before.before)
 loop-again : tie.Need-loop-preserved invariant-loop decreases-loop
 loop-again c =
     let k = c.before.before in
-    (omega arith, filling-more _ _ 16 k.loop.sums k.loop.c _ refl k.loop.invariant.1 (omega (arith, row_in k.before.before)) refl)
+    (omega arith, filling_more _ _ 16 k.loop.sums k.loop.c _ refl k.loop.invariant.1 (omega (arith, row_in k.before.before)) refl)
 
 array-borrow-prefix-sums : tie.Need-array-borrow-prefix-sums invariant-loop decreases-loop
 array-borrow-prefix-sums c = let k = c.before in omega (arith, row_in k.before.before, k.loop.invariant.1.2)
@@ -94,17 +94,17 @@ slice-aggregate-canonical-combine : tie.Need-slice-aggregate-canonical-combine i
 slice-aggregate-canonical-combine c = sym (length-take-le _ _ (array-borrow-prefix-sums c.before))
 
 returns-2 : tie.Need-returns-2 invariant-loop decreases-loop
-unfolding rowMet place
+unfolding row_met place
 returns-2 c =
     let q = c.before in
     let k = q.before.before.before in
     let n = k.before.before.chunks_of in
     let a = k.before.before.before.before.args in
     ap (λ (p : Float × List Float). p.0) q.canonical-combine.ensures
-    ∙ ap tree (filled-front _ _ k.loop.sums k.loop.c n.result (omega arith) k.loop.invariant.1.0)
+    ∙ ap tree (filled_front _ _ k.loop.sums k.loop.c n.result (omega arith) k.loop.invariant.1.0)
     ∙ ap (λ (m : ℕ). tree (table (λ i. get_or a.slots.now (a.row * m + i) nan) m)) n.ensures
 
-pub meet-spec : {M : Type 1} → statement M
-meet-spec =
+pub meet_spec : {M : Type 1} → statement M
+meet_spec =
     tie.close
     (tie.spec invariant-loop decreases-loop chunks-of-requires mul_at mul-result shared-slice-read-result returns loop-holds add-sums mul-sums shared-slice-read-sums mul-sums-2 array-write-sums add-c (λ c. omega arith) loop-again array-borrow-prefix-sums slice-aggregate-canonical-combine (λ c κs. omega arith) returns-2)

@@ -6,19 +6,19 @@ use mathlib.Core.Path.{◌≡◌, refl, ◌∙◌, ap}
 use Prim.Native.Nat.{◌≤◌, ◌<◌, ◌-◌}
 use lib.ListN.{length, take}
 use lib.Seq.{take_all}
-use Rattle.stepped_shape.specs.Layer.{openCount}
+use Rattle.stepped_shape.specs.Layer.{open_count}
 use Rattle.stepped_shape.proofs.Marks.{open_more}
 use Rattle.stepped_shape.proofs.checks.count_open.Statement.{statement}
 use Rattle.stepped_shape.proofs.checks.count_open.Tie as tie
 
 abbrev invariant-loop : tie.invariant-loop
-invariant-loop marks n₀ i₀ n i = (i ≤ length marks) × (n ≤ i) × (n ≡ openCount (take i marks))
+invariant-loop marks n₀ i₀ n i = (i ≤ length marks) × (n ≤ i) × (n ≡ open_count (take i marks))
 
 abbrev decreases-loop : tie.decreases-loop
 decreases-loop marks n₀ i₀ n i = length marks - i
 
 loop-holds : tie.Need-loop-init invariant-loop decreases-loop
-unfolding openCount
+unfolding open_count
 loop-holds c = (omega arith, omega arith, refl)
 
 loop-again : tie.Need-loop-preserved invariant-loop decreases-loop
@@ -33,10 +33,10 @@ loop-again c =
     c.if1.branch
 
 returns : tie.Need-returns invariant-loop decreases-loop
-returns c = c.before.loop.invariant.2 ∙ ap openCount (take_all _ _ c.loop-test.false)
+returns c = c.before.loop.invariant.2 ∙ ap open_count (take_all _ _ c.loop-test.false)
 
-pub count-open-spec : {M : Type 1} → statement M
-count-open-spec =
+pub count_open_spec : {M : Type 1} → statement M
+count_open_spec =
     tie.close
     (tie.spec
     invariant-loop

@@ -11,5 +11,5 @@ returns : tie.Need-returns
 unfolding chunks
 returns c = c.chunks-in.ensures
 
-pub chunks-of-spec : {M : Type 1} → statement M
-chunks-of-spec = tie.close (tie.spec chunks-in-requires returns)
+pub chunks_of_spec : {M : Type 1} → statement M
+chunks_of_spec = tie.close (tie.spec chunks-in-requires returns)

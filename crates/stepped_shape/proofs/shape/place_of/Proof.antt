@@ -1,7 +1,7 @@
 -- `shape::place_of` meets its contract. Assumes nothing.
 use native.Mathlib.Omega.{arith}
 use Rattle.stepped_shape.specs.Layer.{place}
-use Rattle.stepped_shape.proofs.Shapes.{place-within, few-pieces}
+use Rattle.stepped_shape.proofs.Shapes.{place_within, few_pieces}
 use Rattle.stepped_shape.proofs.shape.place_of.Statement.{statement}
 use Rattle.stepped_shape.proofs.shape.place_of.Tie as tie
 
@@ -10,15 +10,15 @@ chunks-of-requires c κs = c.requires.0
 
 mul-result : tie.Need-overflow-mul-result
 unfolding place
-mul-result c = rw c.chunks_of.ensures (omega (arith, place-within _ _ _ c.before.requires.1, few-pieces _ c.before.requires.0))
+mul-result c = rw c.chunks_of.ensures (omega (arith, place_within _ _ _ c.before.requires.1, few_pieces _ c.before.requires.0))
 
 add-result : tie.Need-overflow-add-result
 unfolding place
-add-result c = rw c.chunks_of.ensures (omega (arith, place-within _ _ _ c.before.requires.1, few-pieces _ c.before.requires.0))
+add-result c = rw c.chunks_of.ensures (omega (arith, place_within _ _ _ c.before.requires.1, few_pieces _ c.before.requires.0))
 
 returns : tie.Need-returns
 unfolding place
-returns c = rw c.chunks_of.ensures (omega (arith, place-within _ _ _ c.before.requires.1))
+returns c = rw c.chunks_of.ensures (omega (arith, place_within _ _ _ c.before.requires.1))
 
-pub place-of-spec : {M : Type 1} → statement M
-place-of-spec = tie.close (tie.spec chunks-of-requires mul-result add-result returns)
+pub place_of_spec : {M : Type 1} → statement M
+place_of_spec = tie.close (tie.spec chunks-of-requires mul-result add-result returns)

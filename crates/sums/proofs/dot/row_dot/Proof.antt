@@ -5,10 +5,10 @@ use native.Mathlib.Omega.{arith}
 use lib.ListN.{take}
 use lib.Seq.{get_or-take, length-take-le}
 use lib.Ieee.{nan}
-use Rattle.sums_lanes.specs.Lanes.{products, chunkSum}
+use Rattle.sums_lanes.specs.Lanes.{products, chunk_sum}
 use Rattle.sums.specs.Rows.{chunks_in}
-use Rattle.sums_lanes.proofs.LaneLaws.{products-part}
-use Rattle.sums.proofs.RowLaws.{chunk-cong, chunk_part, one_chunk, Chunking, chunking-start, chunking-more, chunking-met}
+use Rattle.sums_lanes.proofs.LaneLaws.{products_part}
+use Rattle.sums.proofs.RowLaws.{chunk_cong, chunk_part, one_chunk, Chunking, chunking_start, chunking_more, chunking_met}
 use Rattle.sums.proofs.dot.row_dot.Statement.{statement}
 use Rattle.sums.proofs.dot.row_dot.Tie as tie
 
@@ -34,12 +34,12 @@ returns c =
     let a = c.before.before.before.before.before.before.args in
     let n = a.n in
     c.chunk-dot.ensures
-    ∙ ap (chunkSum (products (take n a.x.now) (take n a.w.now))) (length-take-le n a.x.now (omega arith))
-    ∙ chunk-cong _ _ n (λ i h. rw (get_or-take n a.x.now i nan h, get_or-take n a.w.now i nan h))
+    ∙ ap (chunk_sum (products (take n a.x.now) (take n a.w.now))) (length-take-le n a.x.now (omega arith))
+    ∙ chunk_cong _ _ n (λ i h. rw (get_or-take n a.x.now i nan h, get_or-take n a.w.now i nan h))
     ∙ one_chunk (products a.x.now a.w.now) n (omega arith) (omega arith)
 
 loop-holds : tie.Need-loop-init invariant-loop decreases-loop
-loop-holds c = chunking-start _ _ _ refl
+loop-holds c = chunking_start _ _ _ refl
 
 loop-again : tie.Need-loop-preserved invariant-loop decreases-loop
 loop-again c =
@@ -48,8 +48,8 @@ loop-again c =
     let a = b.before.before.before.before.before.args in
     let s = 8192 * b.loop.c in
     let e = t.chunk-end.result in
-    let v = c.chunk-dot2.ensures ∙ chunk_part (products a.x.now a.w.now) _ a.n b.loop.c _ (omega arith) (λ i h. products-part a.x.now a.w.now s (e - s) (e - s) i (omega arith) (omega arith)) in
-    chunking-more (products a.x.now a.w.now) a.n _ b.loop.sums b.loop.c _ refl (omega arith) (omega arith) v b.loop.invariant
+    let v = c.chunk-dot2.ensures ∙ chunk_part (products a.x.now a.w.now) _ a.n b.loop.c _ (omega arith) (λ i h. products_part a.x.now a.w.now s (e - s) (e - s) i (omega arith) (omega arith)) in
+    chunking_more (products a.x.now a.w.now) a.n _ b.loop.sums b.loop.c _ refl (omega arith) (omega arith) v b.loop.invariant
 
 slice-aggregate-canonical-combine : tie.Need-slice-aggregate-canonical-combine invariant-loop decreases-loop
 slice-aggregate-canonical-combine c =
@@ -61,10 +61,10 @@ returns-2 c =
     let b = c.before.before.before.before in
     let a = b.before.before.before.before.before.args in
     let m = b.before.chunks-in in
-    chunking-met (products a.x.now a.w.now) a.n _ b.loop.sums _ b.loop.c m.result _ (omega arith) m.ensures c.before.canonical-combine.ensures b.loop.invariant
+    chunking_met (products a.x.now a.w.now) a.n _ b.loop.sums _ b.loop.c m.result _ (omega arith) m.ensures c.before.canonical-combine.ensures b.loop.invariant
 
-pub row-dot-spec : {M : Type 1} → statement M
-row-dot-spec =
+pub row_dot_spec : {M : Type 1} → statement M
+row_dot_spec =
     tie.close
     (tie.spec
     invariant-loop

@@ -4,26 +4,26 @@ use borrow.Author.Rules.{rules}
 use borrow.Author.Tests.{lt-ltb, le-ltb, eq-eqb, ne_eqb}
 use Rattle.refusals.specs.Said.{value}
 use Rattle.refusals.specs.Refusals.{given}
-use Rattle.sums.specs.Says.{sumSays}
+use Rattle.sums.specs.Says.{sum_says}
 use Rattle.sums.proofs.sum.canonical_sum_pub.Statement.{statement}
 use Rattle.sums.proofs.sum.canonical_sum_pub.Tie as tie
 
 returns : tie.Need-returns
-unfolding sumSays given
+unfolding sum_says given
 returns c = simp (lt-ltb _ _ c.if1.true)
 
 returns-2 : tie.Need-returns-2
-unfolding sumSays given
+unfolding sum_says given
 returns-2 c = simp (le-ltb _ _ c.before.if1.false, eq-eqb _ _ c.if2.true)
 
 returns-3 : tie.Need-returns-3
-unfolding sumSays given
+unfolding sum_says given
 returns-3 c = simp (le-ltb _ _ c.before.before.if1.false, ne_eqb _ _ c.before.if2.false, lt-ltb _ _ c.if3.true)
 
 returns-4 : tie.Need-returns-4
-unfolding sumSays given
+unfolding sum_says given
 returns-4 c = simp (le-ltb _ _ c.before.before.before.if1.false, ne_eqb _ _ c.before.before.if2.false, le-ltb _ _ c.before.if3.false) (ap value c.row-total.ensures)
 
-pub canonical-sum-pub-spec : {M : Type 1} → statement M
-canonical-sum-pub-spec =
+pub canonical_sum_pub_spec : {M : Type 1} → statement M
+canonical_sum_pub_spec =
     tie.close (tie.spec returns returns-2 returns-3 (λ c κs. search rules) returns-4)

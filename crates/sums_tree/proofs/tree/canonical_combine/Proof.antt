@@ -3,7 +3,7 @@ use mathlib.Core.Path.{◌≡◌, refl, ◌∙◌}
 use Prim.Native.Nat.{◌≤◌}
 use native.Mathlib.Omega.{arith}
 use lib.ListN.{length}
-use Rattle.sums_tree.proofs.TreeLaws.{Underway, underway-start, underway-turn, underway-end, tree-none}
+use Rattle.sums_tree.proofs.TreeLaws.{Underway, underway_start, underway_turn, underway_end, tree_none}
 use Rattle.sums_tree.proofs.tree.canonical_combine.Statement.{statement}
 use Rattle.sums_tree.proofs.tree.canonical_combine.Tie as tie
 
@@ -14,10 +14,10 @@ abbrev decreases-loop : tie.decreases-loop
 decreases-loop part₀ len₀ part len = len
 
 returns : tie.Need-returns invariant-loop decreases-loop
-returns c = tree-none c.before.before.args.part.now c.if1.true
+returns c = tree_none c.before.before.args.part.now c.if1.true
 
 loop-holds : tie.Need-loop-init invariant-loop decreases-loop
-loop-holds c = (omega arith, omega arith, refl, underway-start c.before.before.args.part.now)
+loop-holds c = (omega arith, omega arith, refl, underway_start c.before.before.args.part.now)
 
 round-requires : tie.Need-round-requires invariant-loop decreases-loop
 round-requires c κs = omega arith
@@ -34,7 +34,7 @@ loop-again c =
       omega (arith, r.ensures.0),
       omega (arith, r.ensures.0, r.auto.0),
       r.auto.0 ∙ l.invariant.2,
-      rw r.ensures.0 (underway-turn d l.part r.new.0 l.len l.invariant.1 (omega arith) r.ensures.1 l.invariant.3),
+      rw r.ensures.0 (underway_turn d l.part r.new.0 l.len l.invariant.1 (omega arith) r.ensures.1 l.invariant.3),
     )
 
 same_length : tie.Need-same-length invariant-loop decreases-loop
@@ -45,10 +45,10 @@ returns-2 c =
     let b = c.before.before in
     let l = b.loop in
     let e : l.len ≡ 1 = omega arith in
-    underway-end b.before.before.before.args.part.now l.part (omega arith) (rw e at l.invariant.3)
+    underway_end b.before.before.before.args.part.now l.part (omega arith) (rw e at l.invariant.3)
 
-pub canonical-combine-spec : {M : Type 1} → statement M
-canonical-combine-spec =
+pub canonical_combine_spec : {M : Type 1} → statement M
+canonical_combine_spec =
     tie.close
     (tie.spec
     invariant-loop

@@ -1,12 +1,12 @@
 -- `findings::Finding::of_answer` meets its contract. Assumes nothing.
 use borrow.Author.Rules.{rules}
 use mathlib.Core.Path.{◌∙◌, ap}
-use Rattle.replay_answers.specs.Same.{findingOf}
+use Rattle.replay_answers.specs.Same.{finding_of}
 use Rattle.replay_answers.proofs.findings.Finding.of_answer.Statement.{statement}
 use Rattle.replay_answers.proofs.findings.Finding.of_answer.Tie as tie
 
 returns : tie.Need-returns
-returns c = c.of-same.ensures ∙ ap findingOf c.before.same_answer.ensures
+returns c = c.of-same.ensures ∙ ap finding_of c.before.same_answer.ensures
 
-pub of-answer-spec : {M : Type 1} → statement M
-of-answer-spec = tie.close (tie.spec (λ c κs. search rules) (λ c κs. search rules) returns)
+pub of_answer_spec : {M : Type 1} → statement M
+of_answer_spec = tie.close (tie.spec (λ c κs. search rules) (λ c κs. search rules) returns)
