@@ -4,6 +4,8 @@
 // A line says of each row, and then of each case by its n, whether what the call answered is what the card says. The
 // last lines are of a row and cases with a wrong answer. Behind the rows, the cases and the wrong ones, a line counts
 // them.
+#![tactic(auto)]
+
 mod report;
 mod run_only;
 

@@ -1,4 +1,6 @@
 // Document 01's bench card, and whether the compiled code answers its rows as they say.
+#![tactic(auto)]
+
 mod rows;
 mod table;
 

@@ -1,4 +1,6 @@
 // How an answer is handed to C: its number is returned, and its value, its counts or its block go through pointers.
+#![tactic(auto)]
+
 mod answers;
 mod blocks;
 mod counts;

@@ -1,5 +1,7 @@
 // The converters between the two orders of Q4_0: each block's nibbles move to the places of the other order, and its
 // scale stays as it is.
+#![tactic(auto)]
+
 mod block;
 mod blocks;
 mod direction;

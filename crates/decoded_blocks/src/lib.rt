@@ -1,4 +1,6 @@
 // One block, decoded: its values as floats.
+#![tactic(auto)]
+
 mod k;
 mod of32;
 

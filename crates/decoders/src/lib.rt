@@ -1,4 +1,6 @@
 // The block decoders: packed blocks become floats.
+#![tactic(auto)]
+
 mod blocks;
 mod q8_0;
 

@@ -1,5 +1,7 @@
 // A row of readings that is quantised once and kept, its dot with a row of packed weights, and how the dots of its
 // blocks meet. There is no heap: a row's blocks are kept in arrays that the caller lends.
+#![tactic(auto)]
+
 mod kept;
 mod meeting;
 

@@ -1,5 +1,7 @@
 // The C functions of the static library, a module for each family of calls: each calls the public function of its name
 // and lays the answer out as include/jambharrow.h says.
+#![tactic(auto)]
+
 mod activation_blocks;
 mod binary16;
 mod block_converters;

@@ -2,6 +2,8 @@
 //
 // A program of this toolchain has no exit status of its own. Where an argument is given, the status is written to
 // descriptor 3, from which the launcher takes it.
+#![tactic(auto)]
+
 const STATUS: i32 = 3;
 
 fn main() {

@@ -1,4 +1,6 @@
 // What `fillin` answers to one record: the text of its line in a lent buffer, and what is kept for the next record.
+#![tactic(auto)]
+
 mod answers;
 mod state;
 

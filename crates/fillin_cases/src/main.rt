@@ -3,6 +3,8 @@
 // Standard input is a container of them: a byte that says how a file is answered, its length as a little-endian u32,
 // and its bytes. For each answer a line says its number, from 1; the transcript follows; and then a line with the
 // status that a program ends with so. Last come an input that cannot be read and an output that cannot be written.
+#![tactic(auto)]
+
 mod answers;
 mod container;
 

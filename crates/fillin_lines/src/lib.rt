@@ -1,4 +1,6 @@
 // The lines that `fillin` writes, as bytes of text in a lent buffer.
+#![tactic(auto)]
+
 mod lines;
 mod whole;
 

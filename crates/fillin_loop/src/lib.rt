@@ -1,4 +1,6 @@
 // The work of the program `fillin`: records come in by one descriptor, and lines of text leave by another.
+#![tactic(auto)]
+
 mod answering;
 mod come;
 mod ending;

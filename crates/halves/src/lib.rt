@@ -1,4 +1,6 @@
 // Binary16 both ways, and a binary32 and its bits.
+#![tactic(auto)]
+
 mod binary16;
 mod bits;
 mod how;

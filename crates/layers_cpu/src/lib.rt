@@ -1,4 +1,6 @@
 // The `_cpu` layers: a row of packed weights is decoded once, and serves every row of readings.
+#![tactic(auto)]
+
 mod cpu;
 
 pub use cpu::{

@@ -1,4 +1,6 @@
 // The integer layers.
+#![tactic(auto)]
+
 mod layers;
 
 pub use layers::{

@@ -1,4 +1,6 @@
 // A layer's shape, and why a layer whose rows are whole K blocks says no: the fused, integer and `_rs` layers.
+#![tactic(auto)]
+
 ghost use Rattle.std.specs.Prelude.{◌≡◌, ◌≤◌};
 ghost use Rattle.refusals.specs.Said.{check_says};
 ghost use Rattle.refusals.specs.Sizes.{most_in, most_out};

@@ -1,5 +1,7 @@
 // The formats of packed blocks: the bytes and values of each, and the whole numbers of those with 32 values to a block.
 // What a block of any format means is defined here.
+#![tactic(auto)]
+
 mod counts;
 mod format;
 mod of32;

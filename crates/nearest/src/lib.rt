@@ -1,4 +1,6 @@
 // From readings to nibbles of IQ4_NL: the integer of the Q8 rule, and the value of the table that is nearest to it.
+#![tactic(auto)]
+
 ghost use Rattle.std.specs.Prelude.{◌≡◌, ◌≤◌, ◌<◌, ◌+ℤ◌, length, get_or};
 ghost use Rattle.std.specs.Float.{nan, binary32};
 ghost use Rattle.std.specs.Float.Ieee.{mul};

@@ -1,4 +1,6 @@
 // The steps between floats and whole numbers, and the fields of packed bytes.
+#![tactic(auto)]
+
 mod fields;
 mod steps;
 

@@ -1,4 +1,6 @@
 // The block quantizers: 32 readings become a scale and 32 small integers.
+#![tactic(auto)]
+
 mod block;
 mod blocks;
 mod lost;

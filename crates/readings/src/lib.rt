@@ -1,6 +1,8 @@
 // From readings to small integers: the largest magnitude of a block, the inverse of its scale, and the two rules that
 // round. They run for every reading, so they choose between values and never jump: a compiler keeps such a loop in
 // vector registers.
+#![tactic(auto)]
+
 mod ends;
 mod magnitudes;
 mod quants;

@@ -1,4 +1,6 @@
 // The record reader: what stands at the front of a record file, or why it is refused.
+#![tactic(auto)]
+
 mod layers;
 mod reader;
 mod windows;

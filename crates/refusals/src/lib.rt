@@ -1,4 +1,6 @@
 // The refusals, the sizes a call takes, and the answers that carry a value or a refusal.
+#![tactic(auto)]
+
 ghost use Rattle.std.specs.Prelude.{◌≡◌};
 ghost use Rattle.refusals.specs.Said.{blocks_short, said_by, outcome_says, passed_on};
 

@@ -9,6 +9,8 @@
 //
 // For each call a line says how many answers were replayed, and how many of ours differ: neither the same bits nor both
 // NaN. Where the sample cannot be read on, a last line says why, and at which byte.
+#![tactic(auto)]
+
 mod calls;
 mod layers;
 mod records;

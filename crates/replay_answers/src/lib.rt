@@ -1,4 +1,6 @@
 // What the judges of stored answers share: what stands in a payload, and what comes of a record.
+#![tactic(auto)]
+
 mod findings;
 mod payload;
 

@@ -1,4 +1,6 @@
 // The judges of stored answers, for all calls but the layers.
+#![tactic(auto)]
+
 mod activation_blocks;
 mod binary16;
 mod block_converters;

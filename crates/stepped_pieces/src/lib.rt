@@ -1,4 +1,6 @@
 // One piece of the stepped layer: one chunk of one row, whose sum goes into its slot; and a row's slots, met.
+#![tactic(auto)]
+
 mod pieces;
 mod rows;
 

@@ -1,5 +1,7 @@
 // The shape of a stepped layer: its pieces, where their slots and marks lie, what each of the four calls asks for once
 // its format is known, in document 01's order, and what run answers.
+#![tactic(auto)]
+
 mod checks;
 mod progress;
 mod shape;

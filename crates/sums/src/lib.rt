@@ -1,5 +1,7 @@
 // The sum of a row: its chunks' sums, met in the tree. Everything is added in one order, so that a result has one set
 // of bits.
+#![tactic(auto)]
+
 mod chunks;
 mod dot;
 mod sum;

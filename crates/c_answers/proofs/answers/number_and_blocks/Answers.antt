@@ -1,0 +1,8 @@
+-- `answers::number_and_blocks` meets its contract: a case for each answer. Assumes nothing.
+use mathlib.Core.Path.{ap}
+use Rattle.refusals.specs.Said.{outcome_says}
+use Rattle.c_answers.proofs.Counted.{refusal_numbered}
+use Rattle.c_answers.proofs.answers.number_and_blocks.Goals as goal
+
+pub returns-in-Refused : goal.returns-in-Refused
+returns-in-Refused c = refusal_numbered _ _ (ap outcome_says c.in-Refused.is) c.refused_by.ensures

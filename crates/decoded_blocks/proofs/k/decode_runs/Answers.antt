@@ -1,0 +1,46 @@
+-- `k::decode_runs` meets its contract: in turn e the run of 16 from 16 e on is filled. Assumes nothing.
+use mathlib.Core.Path.{refl, ◌∙◌}
+use Prim.Native.Nat.{ℕ, ◌+◌, ◌-◌, ◌*◌}
+use mathlib.Core.List.{List}
+use lib.IntN.{ℤ, pos}
+use lib.ListN.{get_or}
+use lib.Ieee.{Float}
+use native.Mathlib.Omega.{arith}
+use Rattle.layouts.specs.K.{value_of}
+use Rattle.layouts.specs.declared.format.FormatK.TheVariants.{Q6K}
+use Rattle.memory.proofs.Parts.{parts_none, parts_more}
+use Rattle.decoded_blocks.proofs.Runs.{run_lengths, runs_done, run_of_16}
+use Rattle.decoded_blocks.proofs.k.decode_runs.Goals as goal
+
+abbrev values : List ℕ → List ℤ → ℕ → Float
+values bs q i = value_of Q6K bs i (get_or q i (pos 0))
+
+pub loop-e-init : goal.loop-e-init
+loop-e-init c = let a = c.args in parts_none (values a.block.now a.q.now) a.out.now (λ r. 16 * r) 16 refl
+
+pub scale_run-requires : goal.scale_run-requires
+scale_run-requires c =
+    let l = c.loop-e in
+    let t = c in
+    run_lengths t.args.q.now l.out 16 l.e t.requires.1 (l.invariant.2 ∙ t.requires.2) (omega arith)
+
+pub loop-e-preserved : goal.loop-e-preserved
+loop-e-preserved c =
+    let f = c in
+    let l = c.loop-e in
+    let h = c.loop-e-test.true in
+    let t = f in
+    let bs = t.args.block.now in
+    let q = t.args.q.now in
+    let e = l.e in
+    let s = f.scales_q6k-scales in
+    parts_more (values bs q) t.args.out.now (λ r. 16 * r) 16 _ l.out _ e 16 h (omega arith) (omega (arith, t.requires.2)) c.scale_run.ensures (λ i g. run_of_16 bs e i (16 * e + 16 - 16 * e) (omega arith) h g s.result q s.ensures) l.invariant
+
+pub shape_of-out : goal.shape_of-out
+shape_of-out c = c.loop-e.invariant.2
+
+pub returns : goal.returns
+returns c =
+    let l = c.loop-e in
+    let t = c in
+    runs_done (values t.args.block.now t.args.q.now) t.args.out.now l.out 16 l.e t.requires.2 (omega arith) l.invariant

@@ -1,0 +1,24 @@
+-- `of32::scale_run` meets its contract: the places are filled in turn. Assumes nothing.
+use mathlib.Core.Path.{ap}
+use Prim.Native.Nat.{◌-◌}
+use mir.Syntax.{w8}
+use Rattle.numbers.proofs.Signed.{read_is}
+use Rattle.memory.proofs.Filled.{filling_start, filling_more, filling_done}
+use Rattle.decoded_blocks.proofs.Scaled.{times, at}
+use Rattle.decoded_blocks.proofs.of32.scale_run.Goals as goal
+
+pub loop-l-init : goal.loop-l-init
+loop-l-init c = filling_start (at c.args.s c.args.q.now) c.args.out.now 16 c.requires.1
+
+pub loop-l-preserved : goal.loop-l-preserved
+loop-l-preserved c =
+    let d = c in
+    let t = d in
+    filling_more (at t.args.s t.args.q.now) t.args.out.now 16 d.loop-l.out d.loop-l.l _ t.requires.1 d.loop-l.invariant c.loop-l-test.true
+    (ap (times t.args.s) (read_is w8 _ c.out-1.given))
+
+pub returns : goal.returns
+returns c =
+    let d = c in
+    let t = d in
+    filling_done (at t.args.s t.args.q.now) t.args.out.now 16 d.loop-l.out d.loop-l.l t.requires.1 d.loop-l.invariant c.loop-l-test.false

@@ -1,0 +1,28 @@
+-- `of32::scaled_values` meets its contract: the places are filled in turn. Assumes nothing.
+use mathlib.Core.Path.{refl, ap, ◌∙◌}
+use mathlib.Core.List.{List}
+use Prim.Native.Nat.{◌-◌}
+use lib.IntN.{ℤ}
+use mir.Syntax.{w8}
+use Rattle.numbers.proofs.Signed.{read_is}
+use Rattle.memory.specs.Lists.{table}
+use Rattle.memory.proofs.Filled.{filling_start, filling_more, filling_done}
+use Rattle.decoded_blocks.proofs.Scaled.{times, at}
+use Rattle.decoded_blocks.proofs.of32.scaled_values.Goals as goal
+
+pub loop-n-init : goal.loop-n-init
+loop-n-init c = filling_start (at c.args.s c.values_iq4_nl-values.result) _ 16 refl
+
+pub loop-n-preserved : goal.loop-n-preserved
+loop-n-preserved c =
+    let d = c in
+    let s = d.args.s in
+    let v = d.values_iq4_nl-values.result in
+    filling_more (at s v) _ 16 d.loop-n.scaled d.loop-n.n _ refl d.loop-n.invariant c.loop-n-test.true (ap (times s) (read_is w8 _ c.scaled-1.given))
+
+pub returns : goal.returns
+returns c =
+    let d = c in
+    let s = d.args.s in
+    let v = d.values_iq4_nl-values in
+    filling_done (at s v.result) _ 16 d.loop-n.scaled d.loop-n.n refl d.loop-n.invariant c.loop-n-test.false ∙ ap (λ (q : List ℤ). table (at s q) 16) v.ensures

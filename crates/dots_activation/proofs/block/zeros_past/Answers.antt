@@ -1,0 +1,43 @@
+-- `block::zeros_past` meets its contract: every place passed is below n or holds 0, or the answer is no already. Assumes nothing.
+use mathlib.Core.Path.{◌≡◌, sym, ap, ◌∙◌}
+use mathlib.Core.Logic.{⊎_elim}
+use Prim.Native.Nat.{◌+◌, ◌-◌}
+use native.Mathlib.Omega.{arith}
+use lib.IntN.{ℤ, pos}
+use mir.Syntax.{w8}
+use mir.Val.{to_z, of_z}
+use Rattle.memory.specs.Lists.{every}
+use Rattle.memory.proofs.Every.{every_all, every_keeps, every_not}
+use Rattle.numbers.proofs.Signed.{read_is}
+use Rattle.dots_activation.specs.Whole.{elem, eq_z}
+use Rattle.dots_activation.specs.Blocks.{past_is_zero}
+use Rattle.dots_activation.proofs.Tests.{eq_z_not}
+use Rattle.dots_activation.proofs.Past.{below_passes, past_is}
+use Rattle.dots_activation.proofs.block.zeros_past.Goals as goal
+
+pub loop-i-init : goal.loop-i-init
+loop-i-init c = (omega arith, omega arith, sym (every_all _ _ (below_passes c.args.qs.now c.args.n)))
+
+pub loop-i-preserved : goal.loop-i-preserved
+loop-i-preserved c =
+    let k = c in
+    let l = k.loop-i in
+    let qs = k.args.qs.now in
+    let n = k.args.n in
+    let p = past_is_zero qs n in
+    let q = elem qs l.i in
+    let past = past_is qs n l.i l.invariant.0 in (
+      omega arith,
+      omega arith,
+      ⊎_elim
+          (λ w. w.1 ∙ sym (every_not p (l.i + 1) l.i (omega arith) (past ∙ eq_z_not q (pos 0) (λ e. w.0.taken (ap (of_z w8) e)))))
+          (λ w. w.1 ∙ l.invariant.2 ∙ sym (every_keeps p l.i (past ∙ ap (λ (z : ℤ). eq_z z (pos 0)) (sym (read_is w8 q c.t8-1.given) ∙ ap (to_z w8) w.0.left))))
+          c.if-qs-i-ne0.branch,
+    )
+
+pub returns : goal.returns
+returns c =
+    let l = c.loop-i in
+    let a = c.args in
+    let e : l.i ≡ 256 = omega arith in
+    l.invariant.2 ∙ ap (every (past_is_zero a.qs.now a.n)) e

@@ -1,0 +1,32 @@
+-- `of32::quants_q4_0_ggml` meets its contract: in turn k the places k and k + 16 are filled. Assumes nothing.
+use mathlib.Core.Path.{refl}
+use Prim.Native.Nat.{◌+◌, ◌-◌, ◌%◌, ◌<◌}
+use lib.IntN.{pos}
+use lib.ListN.{replicate}
+use Rattle.numbers.proofs.Signed.{byte_read_lem}
+use native.Mathlib.Omega.{arith}
+use Rattle.layouts.specs.Of32.{quant32}
+use Rattle.layouts.specs.declared.format.Format32.TheVariants.{Q40Ggml}
+use Rattle.layouts.proofs.Two.{own_halves, pairs_none, pairs_more, pairs_all}
+use Rattle.layouts.proofs.Quants.{apart_low, apart_high, q40_ggml_at}
+use Rattle.layouts.proofs.of32.quants_q4_0_ggml.Goals as goal
+
+pub loop-k-init : goal.loop-k-init
+loop-k-init c = pairs_none 16 (λ i. i % 16) (quant32 Q40Ggml c.args.block.now) (pos 0) (replicate 32 (pos 0)) refl
+
+pub less-requires-in-loop-k : goal.less-requires-in-loop-k
+less-requires-in-loop-k c = omega (arith, c.shared_slice_known-in-loop-k-1.given (2 + c.loop-k.k))
+
+pub loop-k-preserved : goal.loop-k-preserved
+loop-k-preserved c =
+    let m = c in
+    let bs = m.args.block.now in
+    let k = m.loop-k.k in
+    let h : k < 16 = omega (arith, c.loop-k-test.true) in
+    pairs_more 16 (λ i. i % 16) (quant32 Q40Ggml bs) (pos 0) m.loop-k.q k _ _ h (byte_read_lem c.less.type_inv c.less.ensures (q40_ggml_at bs k _ (apart_low bs 2 k h)))
+    (byte_read_lem c.less-in-loop-k.type_inv c.less-in-loop-k.ensures (q40_ggml_at bs (k + 16) _ (apart_high bs 2 k h))) (own_halves 16 k) m.loop-k.invariant
+
+pub returns : goal.returns
+returns c =
+    let l = c.loop-k in
+    pairs_all 16 (λ i. i % 16) (quant32 Q40Ggml c.args.block.now) (pos 0) l.q l.k (omega (arith, c.loop-k-test.false)) (λ i h. omega arith) l.invariant

@@ -1,0 +1,8 @@
+-- `steps::magnitude_of` meets its contract. Assumes nothing.
+use Rattle.numbers.proofs.steps.magnitude_of.Goals as goal
+
+pub returns-then-v : goal.returns-then-v
+returns-then-v c = rw c.if-v.true
+
+pub returns-else-v : goal.returns-else-v
+returns-else-v c = rw c.if-v.false

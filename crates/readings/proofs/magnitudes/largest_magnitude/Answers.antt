@@ -1,0 +1,9 @@
+-- `readings::largest_magnitude` meets its contract: the law of the two ends. Assumes nothing.
+use mathlib.Core.Path.{◌∙◌}
+use Rattle.readings.proofs.TwoEnds.{larger_end}
+use Rattle.readings.proofs.magnitudes.largest_magnitude.Goals as goal
+
+pub returns : goal.returns
+returns c =
+    let e = c in
+    c.larger_of.ensures ∙ simp (e.ends_of-e.ensures.0, e.ends_of-e.ensures.1) (larger_end e.args.x.now e.shared_slice_known-1.given)

@@ -1,0 +1,7 @@
+-- `payload::byte_at` meets its contract: behind the last byte stands 0. Assumes nothing.
+use mathlib.Core.Path.{sym}
+use lib.ListN.{get_or-eq_default}
+use Rattle.replay_answers.proofs.payload.byte_at.Goals as goal
+
+pub returns-else-at-payload : goal.returns-else-at-payload
+returns-else-at-payload c = sym (get_or-eq_default c.args.payload.now 0 c.if-at-payload.false)

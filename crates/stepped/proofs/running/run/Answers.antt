@@ -1,0 +1,63 @@
+-- `running::run` meets its contract: a refusal, or the next open pieces worked and the marks counted. Assumes nothing.
+use native.Mathlib.Omega.{arith}
+use mathlib.Core.Path.{◌≡◌, sym, ◌∙◌, ap}
+use Prim.Native.Nat.{ℕ}
+use lib.ListN.{length, take}
+use lib.Seq.{length-take-le}
+use Rattle.refusals.specs.Said.{done}
+use Rattle.refusals.proofs.Laws.{else_first, carried_refused, check_passed, check_refused}
+use Rattle.stepped_shape.specs.Layer.{memory, open_count, open_of}
+use Rattle.stepped_shape.specs.Refusals.{work_refusal}
+use Rattle.stepped_shape.proofs.Shapes.{workable, few_pieces}
+use Rattle.stepped_shape.proofs.Says.{by_unknown, by_known}
+use Rattle.stepped.specs.Says.{work, run_says}
+use Rattle.stepped.proofs.Counts.{run_done}
+use Rattle.stepped.proofs.running.run.Goals as goal
+
+pub returns-in_default : goal.returns-in_default
+unfolding run_says
+returns-in_default c = by_unknown _ _ c.format_named.ensures c.in_default.is
+
+pub returns-in-Refused : goal.returns-in-Refused
+unfolding run_says
+returns-in-Refused c =
+    let p = c in
+    let f = p in
+    sym (carried_refused _ _ _ _ (else_first _ _ _ (check_refused p.work_refusal.ensures c.in-Refused.is)))
+    ∙ by_known _ _ f.format_named.ensures f.in-Known.is
+
+able : (c : goal.In_default-work_refusal) → let f = c in let a = f.args in
+    work_refusal f.in-Known.format a.l (length a.w.now) (length a.x.now) (length a.slots.now) (length a.marks.now) ≡ done
+able c = check_passed c.work_refusal.ensures c.in_default-work_refusal.is
+
+pub work_open-done-requires : goal.work_open-done-requires
+work_open-done-requires c = let r = workable _ _ _ _ _ _ (able c) in (r.ready, r.has_room)
+
+pub pieces_of-n-requires : goal.pieces_of-n-requires
+pieces_of-n-requires c = (workable _ _ _ _ _ _ (able c)).ready.shape
+
+pub slice_bounds-count_open-end : goal.slice_bounds-count_open-end
+slice_bounds-count_open-end c =
+    let k = c in
+    omega (arith, c.pieces_of-n.ensures, k.work_open-done.auto.1.1.1.1.1.1.0, (workable _ _ _ _ _ _ (able k)).has_room.marks_enough)
+
+pub slice_bounds-count_open-end-2 : goal.slice_bounds-count_open-end-2
+slice_bounds-count_open-end-2 c = sym (length-take-le _ _ (slice_bounds-count_open-end c))
+
+pub count_open-left-requires : goal.count_open-left-requires
+count_open-left-requires c =
+    let k = c in
+    let few = few_pieces _ (workable _ _ _ _ _ _ (able k)).ready.shape in
+    rw (length-take-le _ _ (slice_bounds-count_open-end k)) (omega (arith, k.pieces_of-n.ensures, few))
+
+pub returns : goal.returns
+unfolding open_of
+returns c =
+    let p = c in
+    let k = p in
+    let e = k in
+    let f = e in
+    let a = f.args in
+    let left = c.count_open-left.ensures ∙ ap (λ (n : ℕ). open_count (take n k.work_open-done.new.marks)) p.pieces_of-n.ensures in
+    run_done _ a.l a.w.now a.x.now a.budget (memory a.slots.now a.marks.now) (work (memory _ _) _) _
+    f.format_named.ensures f.in-Known.is (able e) k.work_open-done.ensures left

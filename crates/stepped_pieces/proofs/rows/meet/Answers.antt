@@ -1,0 +1,98 @@
+-- `rows::meet` meets its contract: after c chunks the copy has their slots. Assumes nothing.
+use native.Mathlib.Nat.{add-zero}
+use native.Mathlib.Omega.{arith}
+use mathlib.Core.Path.{◌≡◌, refl, sym, ap, ◌∙◌}
+use mathlib.Core.List.{List}
+use Prim.Native.Nat.{ℕ, ◌≤◌, ◌+◌, ◌-◌, ◌*◌}
+use lib.ListN.{length, get_or, take, drop}
+use lib.Seq.{take_at, length-take-le}
+use lib.Ieee.{Float, nan}
+use Rattle.memory.specs.Lists.{table, filled}
+use Rattle.memory.proofs.Filled.{length_table, filling_start, filling_more}
+use Rattle.sums_tree.specs.Tree.{pair_up, met, tree}
+use Rattle.stepped_shape.specs.Layer.{chunks, pieces, place}
+use Rattle.stepped_shape.proofs.Shapes.{row_within, few_chunks, few_pieces}
+use Rattle.stepped_pieces.specs.Pieces.{row_met}
+use Rattle.stepped_pieces.proofs.rows.meet.Goals as goal
+
+pub chunks_of-n-requires : goal.chunks_of-n-requires
+chunks_of-n-requires c = c.requires.0
+
+-- the row's slots lie within the layer's, and there are 16 at most
+row_in : (c : goal.After-chunks_of-n) → let a = c.args in
+    (a.row * c.chunks_of-n.result + c.chunks_of-n.result ≤ length a.slots.now) × (c.chunks_of-n.result ≤ 16) × (pieces a.l ≤ 1048576)
+row_in c =
+    let t = c in
+    let r : t.args.row * c.chunks_of-n.result + c.chunks_of-n.result ≤ pieces t.args.l = simp c.chunks_of-n.ensures (row_within t.args.l t.args.row t.requires.1) in
+    (omega (arith, r, t.requires.2), omega (arith, c.chunks_of-n.ensures, few_chunks _ t.requires.0), few_pieces _ t.requires.0)
+
+pub overflow_mul-at : goal.overflow_mul-at
+overflow_mul-at c = omega (arith, row_in c)
+
+pub offset_bounds-slots-at : goal.offset_bounds-slots-at
+offset_bounds-slots-at c = omega (arith, row_in c)
+
+pub bounds-slots-at : goal.bounds-slots-at
+bounds-slots-at c = omega (arith, row_in c)
+
+-- one value is its own tree
+tree_of_one : (f : ℕ → Float) (n : ℕ) → n ≡ 1 → tree (table f n) ≡ f 0
+unfolding tree met pair_up table
+tree_of_one f n e = rw e refl
+
+-- the front of a list that is filled so far
+filled_front : (f : ℕ → Float) (xs ys : List Float) (i n : ℕ) → i ≡ n → ys ≡ filled f xs i → take n ys ≡ table f n
+filled_front f xs ys i n e h = ap (take n) (h ∙ ap (filled f xs) e) ∙ take_at (table f n) (drop n xs) n (length_table f n)
+
+pub returns-then-n-eq1 : goal.returns-then-n-eq1
+unfolding row_met place
+returns-then-n-eq1 c =
+    let k = c in
+    let a = k.args in
+    let n = k.chunks_of-n in
+    sym
+    (tree_of_one (λ i. get_or a.slots.now (a.row * chunks a.l + i) nan) (chunks a.l) (sym n.ensures ∙ c.if-n-eq1.true)
+    ∙ ap (λ (i : ℕ). get_or a.slots.now i nan) (add-zero (a.row * chunks a.l) ∙ ap (λ (m : ℕ). a.row * m) (sym n.ensures)))
+
+pub loop-c-init : goal.loop-c-init
+loop-c-init c = (omega arith, filling_start _ _ 16 refl)
+
+pub overflow_add-sums : goal.overflow_add-sums
+overflow_add-sums c = omega (arith, row_in c)
+
+pub offset_bounds-slots-at-in-loop-c : goal.offset_bounds-slots-at-in-loop-c
+offset_bounds-slots-at-in-loop-c c = omega (arith, row_in c)
+
+pub bounds-slots-at-in-loop-c : goal.bounds-slots-at-in-loop-c
+bounds-slots-at-in-loop-c c = omega (arith, row_in c)
+
+pub offset_bounds-sums-c : goal.offset_bounds-sums-c
+offset_bounds-sums-c c = omega (arith, row_in c)
+
+pub bounds-sums-c : goal.bounds-sums-c
+bounds-sums-c c = omega (arith, row_in c)
+
+pub overflow_add-c : goal.overflow_add-c
+overflow_add-c c = omega (arith, row_in c)
+
+pub loop-c-preserved : goal.loop-c-preserved
+loop-c-preserved c =
+    let k = c in
+    (omega arith, filling_more _ _ 16 k.loop-c.sums k.loop-c.c _ refl k.loop-c.invariant.1 (omega (arith, row_in k)) refl)
+
+pub slice_bounds-sums-end : goal.slice_bounds-sums-end
+slice_bounds-sums-end c = let k = c in omega (arith, row_in k, k.loop-c.invariant.1.2)
+
+pub slice_bounds-canonical_combine-end : goal.slice_bounds-canonical_combine-end
+slice_bounds-canonical_combine-end c = sym (length-take-le _ _ (slice_bounds-sums-end c))
+
+pub returns : goal.returns
+unfolding row_met place
+returns c =
+    let q = c in
+    let k = q in
+    let n = k.chunks_of-n in
+    let a = k.args in
+    ap (λ (p : Float × List Float). p.0) q.canonical_combine.ensures
+    ∙ ap tree (filled_front _ _ k.loop-c.sums k.loop-c.c n.result (omega arith) k.loop-c.invariant.1.0)
+    ∙ ap (λ (m : ℕ). tree (table (λ i. get_or a.slots.now (a.row * m + i) nan) m)) n.ensures
