@@ -30,7 +30,7 @@ picked m n = ap (λ (v : List ℤ). get_or v n (pos 0)) m.values_iq4_nl-values.e
 pub loop-k-preserved : goal.loop-k-preserved
 unfolding nearer_next
 loop-k-preserved c =
-    let m = c in
+    let m = c.before.before.before.before in
     let l = m.loop-k in
     let r = c.next_is_nearer-n.ensures in
     let q = byte_read m.args.q in
@@ -44,7 +44,7 @@ loop-k-preserved c =
 pub returns : goal.returns
 returns c =
     let l = c.loop-k in
-    let s = c in
+    let s = c.before.before.before in
     let all : l.k ≡ 15 = omega (arith, c.loop-k-test.false) in
     let e : l.n ≡ nearer_next (byte_read s.args.q) 15 = l.invariant.0 ∙ ap (nearer_next (byte_read s.args.q)) all in
     (e ∙ (searched (of_z w8 s.args.q) (of_z_fits w8 s.args.q s.ranges.q).fits).0 ∙ ap nearest (read_is w8 s.args.q s.ranges.q.sfits), omega arith)

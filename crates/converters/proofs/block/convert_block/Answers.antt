@@ -34,13 +34,13 @@ long : (t : goal.Start) (g : ℕ → ℕ) {ys : List ℕ} → ys ≡ table g 16 
 long t g {ys} Y = block_long 18 16 refl g (scaled t) ys (simp length-set t.requires.1) Y ∙ sym t.requires.1
 
 pub shape_of-out-in-ToGgml : goal.shape_of-out-in-ToGgml
-shape_of-out-in-ToGgml c = long c _ c.move_apart.ensures
+shape_of-out-in-ToGgml c = long c.before.before.before.before.before.before.before.before.before _ c.move_apart.ensures
 
 pub returns-in-ToGgml : goal.returns-in-ToGgml
-returns-in-ToGgml c = by ToGgml c c.in-ToGgml.is c.move_apart.ensures
+returns-in-ToGgml c = by ToGgml c.before.before.before.before.before.before.before.before.before c.in-ToGgml.is c.move_apart.ensures
 
 pub shape_of-out-in-FromGgml : goal.shape_of-out-in-FromGgml
-shape_of-out-in-FromGgml c = long c _ c.move_together.ensures
+shape_of-out-in-FromGgml c = long c.before.before.before.before.before.before.before.before.before _ c.move_together.ensures
 
 pub returns-in-FromGgml : goal.returns-in-FromGgml
-returns-in-FromGgml c = by FromGgml c c.in-FromGgml.is c.move_together.ensures
+returns-in-FromGgml c = by FromGgml c.before.before.before.before.before.before.before.before.before c.in-FromGgml.is c.move_together.ensures

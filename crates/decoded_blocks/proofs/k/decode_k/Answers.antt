@@ -26,26 +26,26 @@ quants_q4k-q-requires c = c.requires.0 ∙ ap bytes_k (left c)
 -- the bytes of either are the block's whole numbers
 bytes : (c : goal.Joined-format-2) → (let a = c.args in Laid a.format a.block.now c.match-format-2.q)
 bytes c =
-    ⊎_elim (λ w. laid Q5K _ w.1.given.1 (w.3 ∙ w.2.ensures) (λ i. refl)) (λ w. laid Q4K _ (left record { before = c; match2 = w.0 }) (w.2 ∙ w.1.ensures) (λ i. refl)) c.match-format-2.branch
+    ⊎_elim (λ w. laid Q5K _ w.1.given.1 (w.3 ∙ w.2.ensures) (λ i. refl)) (λ w. laid Q4K _ (left record { before = c.before; match2 = w.0 }) (w.2 ∙ w.1.ensures) (λ i. refl)) c.match-format-2.branch
 
 pub decode_sub_blocks-requires : goal.decode_sub_blocks-requires
-decode_sub_blocks-requires c = let t = c in (omega (arith, t.requires.0, sizes (OfK t.args.format)), (bytes c).0, t.requires.1)
+decode_sub_blocks-requires c = let t = c.before.before.before.before.before.before in (omega (arith, t.requires.0, sizes (OfK t.args.format)), (bytes c.before.before).0, t.requires.1)
 
 pub quants_q6k-q-requires : goal.quants_q6k-q-requires
 quants_q6k-q-requires c = c.requires.0 ∙ ap bytes_k c.in-Q6K.is
 
 pub decode_runs-requires : goal.decode_runs-requires
-decode_runs-requires c = let t = c in (t.requires.0 ∙ ap bytes_k c.in-Q6K.is, omega arith, t.requires.1)
+decode_runs-requires c = let t = c.before.before.before.before.before.before in (t.requires.0 ∙ ap bytes_k c.in-Q6K.is, omega arith, t.requires.1)
 
 pub returns-after-format-2 : goal.returns-after-format-2
 returns-after-format-2 c =
-    let m = c in
+    let m = c.before.before.before.before.before in
     let f = m.args.format in
     c.decode_sub_blocks.ensures ∙ of_laid_out Q4K f _ (λ i. pos (get_or m.match-format-2.q i 0)) (with_minimums f m.in-Q4K.in-Q4K-own.keys1) (bytes m).1
 
 pub returns-in-Q6K : goal.returns-in-Q6K
 returns-in-Q6K c =
-    let q = c in
+    let q = c.before.before.before.before.before in
     let f = q.args.format in
     let e = q.in-Q6K.is in
     c.decode_runs.ensures ∙ of_laid_out Q6K f _ (λ i. get_or q.quants_q6k-q.result i (pos 0)) (ap has_minimums e) (laid_out_at Q6K _ (λ z. z) (pos 0) e q.quants_q6k-q.ensures (λ i. refl))

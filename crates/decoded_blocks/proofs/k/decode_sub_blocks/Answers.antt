@@ -21,15 +21,15 @@ loop-e-init c = let a = c.args in parts_none (values a.block.now a.q.now) a.out.
 pub scale_run_less-requires : goal.scale_run_less-requires
 scale_run_less-requires c =
     let l = c.loop-e in
-    let t = c in
+    let t = c.before.before.before.before.before.before.before.before in
     run_lengths t.args.q.now l.out 16 l.e t.requires.1 (l.invariant.2 ∙ t.requires.2) (omega arith)
 
 pub loop-e-preserved : goal.loop-e-preserved
 loop-e-preserved c =
-    let f = c in
+    let f = c.before.before.before.before.before.before.before in
     let l = c.loop-e in
     let h = c.loop-e-test.true in
-    let t = f in
+    let t = f.before.before.before.before in
     let bs = t.args.block.now in
     let q = t.args.q.now in
     let e = l.e in
@@ -42,5 +42,5 @@ shape_of-out c = c.loop-e.invariant.2
 pub returns : goal.returns
 returns c =
     let l = c.loop-e in
-    let t = c in
+    let t = c.before.before.before.before.before.before in
     runs_done (values t.args.block.now t.args.q.now) t.args.out.now l.out 16 l.e t.requires.2 (omega arith) l.invariant

@@ -16,8 +16,8 @@ loop-l-init c = filling_start (at c.args.q.now c.args.s c.args.m) c.args.out.now
 
 pub loop-l-preserved : goal.loop-l-preserved
 loop-l-preserved c =
-    let d = c in
-    let t = d in
+    let d = c.before.before.before in
+    let t = d.before in
     filling_more (at t.args.q.now t.args.s t.args.m) t.args.out.now 16 d.loop-l.out d.loop-l.l _ t.requires.1 d.loop-l.invariant c.loop-l-test.true refl
 
 pub shape_of-out : goal.shape_of-out
@@ -25,6 +25,6 @@ shape_of-out c = c.loop-l.invariant.2 ∙ sym c.requires.1
 
 pub returns : goal.returns
 returns c =
-    let d = c in
-    let t = d in
+    let d = c.before in
+    let t = d.before in
     filling_done (at t.args.q.now t.args.s t.args.m) t.args.out.now 16 d.loop-l.out d.loop-l.l t.requires.1 d.loop-l.invariant c.loop-l-test.false

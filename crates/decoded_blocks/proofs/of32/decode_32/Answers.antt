@@ -51,13 +51,13 @@ many c = ap length (own c) ∙ length_table _ 32
 
 pub returns-in-Iq4Nl : goal.returns-in-Iq4Nl
 returns-in-Iq4Nl c =
-    let k = c in
-    rw k.in-Iq4Nl.is (c.decode_picked.ensures ∙ of_scale Iq4Nl _ _ (scale k))
+    let k = c.before.before.before.before in
+    rw k.in-Iq4Nl.is (c.decode_picked.ensures ∙ of_scale Iq4Nl _ _ (scale k.before))
 
 pub returns : goal.returns
 returns c =
-    let m = c in
+    let m = c.before.before.before.before.before in
     let a = m.args in
     c.scale_quants.ensures
     ∙ of_quants a.format a.block.now _ _ (own m)
-    ∙ of_scale a.format a.block.now _ (scale m)
+    ∙ of_scale a.format a.block.now _ (scale m.before)

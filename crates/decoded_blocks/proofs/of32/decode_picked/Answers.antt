@@ -14,7 +14,7 @@ use Rattle.decoded_blocks.proofs.of32.decode_picked.Goals as goal
 
 pub loop-k-init : goal.loop-k-init
 loop-k-init c =
-    let t = c in
+    let t = c.before.before.before in
     pairs_none 16 (λ i. i % 16) (λ i. times t.args.s (quant32 Iq4Nl t.args.block.now i)) nan t.args.out.now t.requires.1
 
 -- n, the nibble of place i, picks that place's value
@@ -27,7 +27,7 @@ picked m i n e =
 
 pub loop-k-preserved : goal.loop-k-preserved
 loop-k-preserved c =
-    let m = c in
+    let m = c.before.before in
     let a = m.args in
     let bs = a.block.now in
     let k = m.loop-k.k in

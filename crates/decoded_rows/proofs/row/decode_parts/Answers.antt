@@ -24,13 +24,13 @@ pub record Here (size values place room b inside : ℕ) : Type 0 where
 
 here : (c : goal.In-loop-at)
     → (let v = c.block_values-values.result in
-    let t = c in
+    let t = c.before.before.before.before.before.before in
     let place = t.args.from + c.loop-at.at in
     Here c.block_bytes-size.result v place (length t.args.w.now) (place / v) (place % v))
 here c =
     let values = c.block_values-values in
     let size = c.block_bytes-size in
-    let t = c in
+    let t = c.before.before.before.before.before.before in
     let v = values.result in
     let z = size.result in
     let room = length t.args.w.now in
@@ -54,13 +54,13 @@ overflow_sub-n c = omega (arith, c.loop-at-test.true)
 
 -- how many places of it a turn takes: one at least, and no more than there are
 count : (c : goal.After-smaller)
-    → (let d = c in
-    let t = d in
+    → (let d = c.before in
+    let t = d.before.before.before.before.before.before in
     let v = d.block_values-values.result in
     let at = d.loop-at.at in
     (0 < c.smaller.result) × (c.smaller.result ≤ v - (t.args.from + at) % v) × (at + c.smaller.result ≤ length t.args.out.now))
 count c =
-    let d = c in
+    let d = c.before in
     let k = (here d).inner in
     (omega (arith, k, d.loop-at-test.true, c.smaller.ensures), omega (arith, c.smaller.ensures), omega (arith, d.loop-at-test.true, c.smaller.ensures))
 
@@ -68,31 +68,31 @@ pub overflow_add-end : goal.overflow_add-end
 overflow_add-end c = omega (arith, count c)
 
 pub overflow_mul-start : goal.overflow_mul-start
-overflow_mul-start c = omega (arith, (here c).stop)
+overflow_mul-start c = omega (arith, (here c.before).stop)
 
 pub overflow_add-stop : goal.overflow_add-stop
-overflow_add-stop c = omega (arith, (here c).stop)
+overflow_add-stop c = omega (arith, (here c.before).stop)
 
 pub slice_bounds-decode_within-count : goal.slice_bounds-decode_within-count
-slice_bounds-decode_within-count c = omega (arith, (here c).stop)
+slice_bounds-decode_within-count c = omega (arith, (here c.before).stop)
 
 pub slice_bounds-decode_within-start : goal.slice_bounds-decode_within-start
-slice_bounds-decode_within-start c = omega (arith, (here c).stop)
+slice_bounds-decode_within-start c = omega (arith, (here c.before).stop)
 
 pub slice_bounds-decode_within-end : goal.slice_bounds-decode_within-end
-slice_bounds-decode_within-end c = omega (arith, (here c).stop)
+slice_bounds-decode_within-end c = omega (arith, (here c.before).stop)
 
 pub offset_bounds-out-at : goal.offset_bounds-out-at
-offset_bounds-out-at c = omega (arith, count c)
+offset_bounds-out-at c = omega (arith, count c.before)
 
 pub slice_bounds-decode_within-count-in-loop-at : goal.slice_bounds-decode_within-count-in-loop-at
-slice_bounds-decode_within-count-in-loop-at c = omega (arith, count c)
+slice_bounds-decode_within-count-in-loop-at c = omega (arith, count c.before)
 
 pub slice_bounds-decode_within-start-in-loop-at : goal.slice_bounds-decode_within-start-in-loop-at
-slice_bounds-decode_within-start-in-loop-at c = omega (arith, count c)
+slice_bounds-decode_within-start-in-loop-at c = omega (arith, count c.before)
 
 pub slice_bounds-decode_within-end-in-loop-at : goal.slice_bounds-decode_within-end-in-loop-at
-slice_bounds-decode_within-end-in-loop-at c = omega (arith, count c, c.loop-at.invariant.2)
+slice_bounds-decode_within-end-in-loop-at c = omega (arith, count c.before, c.loop-at.invariant.2)
 
 -- the places that a turn fills
 lent : (c : goal.After-smaller) → (let l = c.loop-at in length (take (l.at + c.smaller.result - l.at) (drop l.at l.out)) ≡ c.smaller.result)
@@ -102,11 +102,11 @@ lent c =
 
 pub decode_within-requires : goal.decode_within-requires
 decode_within-requires c =
-    let e = c in
-    let d = e in
+    let e = c.before.before in
+    let d = e.before in
     let size = d.block_bytes-size in
     let values = d.block_values-values in
-    let t = d in
+    let t = d.before.before.before.before.before.before in
     let b = (t.args.from + d.loop-at.at) / values.result in
     let k = count e in (
       part_length t.args.w.now (b * size.result) size.result (b * size.result + size.result) refl (here d).stop ∙ size.ensures,
@@ -114,16 +114,16 @@ decode_within-requires c =
     )
 
 pub loop-at-smaller : goal.loop-at-smaller
-loop-at-smaller c = let e = c in omega (arith, count e, e.loop-at-test.true)
+loop-at-smaller c = let e = c.before.before.before.before.before in omega (arith, count e, e.loop-at-test.true)
 
 pub loop-at-preserved : goal.loop-at-preserved
 loop-at-preserved c =
-    let e = c in
-    let d = e in
+    let e = c.before.before.before.before.before in
+    let d = e.before in
     let l = d.loop-at in
     let size = d.block_bytes-size in
     let values = d.block_values-values in
-    let t = d in
+    let t = d.before.before.before.before.before.before in
     let f = t.args.format in
     let w = t.args.w.now in
     let z = size.result in
@@ -150,7 +150,7 @@ shape_of-out c = c.loop-at.invariant.2
 pub returns : goal.returns
 returns c =
     let l = c.loop-at in
-    let t = c in
+    let t = c.before.before.before.before.before.before in
     let whole : ℕ → Float = λ i. weight_at t.args.format t.args.w.now (t.args.from + i) in
     let e : l.at ≡ length t.args.out.now = le_antisymm l.invariant.1 c.loop-at-test.false in
     l.invariant.0 ∙ ap (filled whole t.args.out.now) e ∙ filled_all whole t.args.out.now (length t.args.out.now) (le_of_eq refl)

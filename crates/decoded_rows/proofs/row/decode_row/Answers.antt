@@ -23,7 +23,7 @@ nonzero_rem-n c = (some c).0
 
 pub overflow_add-from : goal.overflow_add-from
 overflow_add-from c =
-    let t = c in
+    let t = c.before.before.before.before in
     omega (arith, some c, mod-lt t.args.from (some c).0, mod-lt (length t.args.out.now) (some c).0)
 
 pub decode_parts-requires : goal.decode_parts-requires
@@ -33,22 +33,22 @@ pub returns-then-from-values-gt0 : goal.returns-then-from-values-gt0
 returns-then-from-values-gt0 c = c.decode_parts.ensures
 
 -- the row's blocks lie within the weights
-fits : (c : goal.Else-from-values-gt0) → (let t = c in
+fits : (c : goal.Else-from-values-gt0) → (let t = c.before.before.before.before.before in
     let z = c.block_bytes-size.result in
     let v = c.block_values-values.result in
     t.args.from / v * z + length t.args.out.now / v * z ≤ length t.args.w.now)
 fits c =
-    let t = c in
+    let t = c.before.before.before.before.before in
     row_fits t.args.format t.args.w.now t.args.from (length t.args.out.now) _ _ c.block_bytes-size.ensures c.block_values-values.ensures c.if-from-values-gt0.false t.requires.0
 
 pub nonzero_div-start : goal.nonzero_div-start
-nonzero_div-start c = (some c).0
+nonzero_div-start c = (some c.before).0
 
 pub overflow_mul-start : goal.overflow_mul-start
 overflow_mul-start c = omega (arith, fits c)
 
 pub nonzero_div-stop : goal.nonzero_div-stop
-nonzero_div-stop c = (some c).0
+nonzero_div-stop c = (some c.before).0
 
 pub overflow_mul-stop : goal.overflow_mul-stop
 overflow_mul-stop c = omega (arith, fits c)
@@ -67,14 +67,14 @@ slice_bounds-decode_blocks-end c = omega (arith, fits c)
 
 pub decode_blocks-requires : goal.decode_blocks-requires
 decode_blocks-requires c =
-    let e = c in
-    let t = e in
+    let e = c.before.before in
+    let t = e.before.before.before.before.before in
     le_of_eq (row_values t.args.format t.args.w.now t.args.from (length t.args.out.now) _ _ e.block_bytes-size.ensures e.block_values-values.ensures e.if-from-values-gt0.false t.requires.0)
 
 pub returns : goal.returns
 returns c =
-    let e = c in
-    let t = e in
+    let e = c.before.before.before.before.before in
+    let t = e.before.before.before.before.before in
     let f = t.args.format in
     let w = t.args.w.now in
     let out = t.args.out.now in

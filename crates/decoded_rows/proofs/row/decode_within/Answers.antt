@@ -24,20 +24,20 @@ pub slice_bounds-whole-end : goal.slice_bounds-whole-end
 slice_bounds-whole-end c = omega (arith, sizes c.args.format, c.block_values-values.ensures)
 
 pub slice_bounds-decode_blocks-end : goal.slice_bounds-decode_blocks-end
-slice_bounds-decode_blocks-end c = sym (front c)
+slice_bounds-decode_blocks-end c = sym (front c.before)
 
 pub decode_blocks-requires : goal.decode_blocks-requires
 decode_blocks-requires c =
-    let t = c in
-    le_of_eq (block_values_lem t.args.format t.args.block.now t.requires.0 ∙ sym c.block_values-values.ensures ∙ sym (front c))
+    let t = c.before.before.before.before in
+    le_of_eq (block_values_lem t.args.format t.args.block.now t.requires.0 ∙ sym c.block_values-values.ensures ∙ sym (front c.before))
 
 pub loop-i-init : goal.loop-i-init
 loop-i-init c = filling_start _ _ _ refl
 
 -- the place that a turn reads is one of the block's
-inside : (c : goal.In-loop-i) → (let t = c in (t.args.from + c.loop-i.i < block_values t.args.format) × (block_values t.args.format ≤ 256))
+inside : (c : goal.In-loop-i) → (let t = c.before.before.before.before.before.before.before.before in (t.args.from + c.loop-i.i < block_values t.args.format) × (block_values t.args.format ≤ 256))
 inside c =
-    let t = c in
+    let t = c.before.before.before.before.before.before.before.before in
     (omega (arith, t.requires.1, c.loop-i-test.true), (sizes t.args.format).3)
 
 pub overflow_add-out : goal.overflow_add-out
@@ -57,7 +57,7 @@ shape_of-out c = c.loop-i.invariant.2
 
 pub returns : goal.returns
 returns c =
-    let t = c in
+    let t = c.before.before.before.before.before.before.before.before in
     let l = c.loop-i in
     let d = c.decode_blocks in
     let values = c.block_values-values in
@@ -67,7 +67,7 @@ returns c =
     let made : d.new.out ≡ table f v =
     d.ensures
     ∙ ap (filled (weight_at t.args.format block) _) (block_values_lem t.args.format block t.requires.0)
-    ∙ filled_all (weight_at t.args.format block) _ v (le_of_eq (front c ∙ values.ensures))
+    ∙ filled_all (weight_at t.args.format block) _ v (le_of_eq (front c.before.before.before.before.before ∙ values.ensures))
     ∙ table_ext (weight_at t.args.format block) f v (block_weight t.args.format block t.requires.0) in
     filling_done _ _ (length t.args.out.now) l.out l.i refl l.invariant c.loop-i-test.false
     ∙ table_ext _ (λ i. f (t.args.from + i)) (length t.args.out.now) (λ i h.

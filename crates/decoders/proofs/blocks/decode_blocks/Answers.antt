@@ -13,13 +13,13 @@ is_told : (c : goal.Joined-format) → c.match-format.format ≡ c.args.format
 is_told c = ⊎_elim (λ w. w.4 ∙ sym w.1.given.1) (λ w. w.2) c.match-format.branch
 
 pub decode_q8_0_blocks-requires : goal.decode_q8_0_blocks-requires
-decode_q8_0_blocks-requires c = let t = c in rw (is_q8_0 c) at t.requires
+decode_q8_0_blocks-requires c = let t = c.before.before.before.before.before in rw (is_q8_0 c.before) at t.requires
 
 pub returns-in-Q80 : goal.returns-in-Q80
-returns-in-Q80 c = rw (is_q8_0 c) c.decode_q8_0_blocks.ensures
+returns-in-Q80 c = rw (is_q8_0 c.before.before.before.before) c.decode_q8_0_blocks.ensures
 
 pub decode_each-requires : goal.decode_each-requires
-decode_each-requires c = rw (is_told c) c.requires
+decode_each-requires c = rw (is_told c.before) c.requires
 
 pub returns : goal.returns
-returns c = rw (is_told c) at c.decode_each.ensures
+returns c = rw (is_told c.before.before.before.before) at c.decode_each.ensures

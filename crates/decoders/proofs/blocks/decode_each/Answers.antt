@@ -28,7 +28,7 @@ facts : (c : goal.In-loop-b)
     let v = c.block_values-values.result in
     (b * size + size ≤ length c.args.bytes.now) × (b * v + v ≤ length c.args.out.now) × (b < length c.args.bytes.now))
 facts c =
-    let t = c in
+    let t = c.before.before.before.before.before.before in
     let size = c.block_bytes-size in
     let values = c.block_values-values in
     part_within c.loop-b.b size.result values.result (length t.args.bytes.now) (length t.args.out.now) c.loop-b-test.true (rw (size.ensures, values.ensures) t.requires)
@@ -55,20 +55,20 @@ pub slice_bounds-decode_block-end : goal.slice_bounds-decode_block-end
 slice_bounds-decode_block-end c = omega (arith, facts c)
 
 pub offset_bounds-out-at : goal.offset_bounds-out-at
-offset_bounds-out-at c = omega (arith, facts c)
+offset_bounds-out-at c = omega (arith, facts c.before)
 
 pub slice_bounds-decode_block-count-in-loop-b : goal.slice_bounds-decode_block-count-in-loop-b
-slice_bounds-decode_block-count-in-loop-b c = omega (arith, facts c)
+slice_bounds-decode_block-count-in-loop-b c = omega (arith, facts c.before)
 
 pub slice_bounds-decode_block-start-in-loop-b : goal.slice_bounds-decode_block-start-in-loop-b
-slice_bounds-decode_block-start-in-loop-b c = omega (arith, facts c)
+slice_bounds-decode_block-start-in-loop-b c = omega (arith, facts c.before)
 
 pub slice_bounds-decode_block-end-in-loop-b : goal.slice_bounds-decode_block-end-in-loop-b
-slice_bounds-decode_block-end-in-loop-b c = omega (arith, facts c)
+slice_bounds-decode_block-end-in-loop-b c = omega (arith, facts c.before)
 
 pub decode_block-requires : goal.decode_block-requires
 decode_block-requires c =
-    let d = c in
+    let d = c.before.before in
     let l = d.loop-b in
     let size = d.block_bytes-size in
     let values = d.block_values-values in
@@ -79,16 +79,16 @@ decode_block-requires c =
     )
 
 pub overflow_add-b : goal.overflow_add-b
-overflow_add-b c = omega (arith, c.loop-b-test.true, (facts c).2)
+overflow_add-b c = omega (arith, c.loop-b-test.true, (facts c.before.before.before.before.before).2)
 
 pub loop-b-smaller : goal.loop-b-smaller
 loop-b-smaller c = omega (arith, c.loop-b-test.true)
 
 pub loop-b-preserved : goal.loop-b-preserved
 loop-b-preserved c =
-    let d = c in
+    let d = c.before.before.before.before.before in
     let l = d.loop-b in
-    let t = d in
+    let t = d.before.before.before.before.before.before in
     let f = t.args.format in
     let bs = t.args.bytes.now in
     let size = d.block_bytes-size.result in
@@ -105,7 +105,7 @@ shape_of-out c = c.loop-b.invariant.2
 pub returns : goal.returns
 returns c =
     let l = c.loop-b in
-    let t = c in
+    let t = c.before.before.before.before.before.before in
     let f = t.args.format in
     let bs = t.args.bytes.now in
     let size = c.block_bytes-size in

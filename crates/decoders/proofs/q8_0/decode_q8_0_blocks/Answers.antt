@@ -31,9 +31,9 @@ decode_q8_0-requires c =
 
 pub loop-b-preserved : goal.loop-b-preserved
 loop-b-preserved c =
-    let d = c in
+    let d = c.before.before.before.before.before in
     let l = d.loop-b in
-    let t = d in
+    let t = d.before.before.before.before in
     let bs = t.args.bytes.now in
     let b = l.b in
     let inside : b * 32 + 32 ≤ length t.args.out.now = omega arith in

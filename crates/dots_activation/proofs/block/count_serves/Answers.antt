@@ -16,14 +16,14 @@ pub returns-then-places-count : goal.returns-then-places-count
 unfolding count_serves
 returns-then-places-count c =
     let a = c.args in
-    ap (λ (t : Bool). cond t (zeros_past a.qs.now a.count) false) (sym (ne_eqb _ _ (λ e. c.if-places-count.true (held c ∙ e))))
+    ap (λ (t : Bool). cond t (zeros_past a.qs.now a.count) false) (sym (ne_eqb _ _ (λ e. c.if-places-count.true (held c.before ∙ e))))
 
 pub zeros_past-requires : goal.zeros_past-requires
-zeros_past-requires c = omega (arith, held c)
+zeros_past-requires c = omega (arith, held c.before)
 
 pub returns : goal.returns
 unfolding count_serves
 returns c =
-    let i = c in
+    let i = c.before in
     let a = i.args in
-    c.zeros_past.ensures ∙ ap (λ (t : Bool). cond t (zeros_past a.qs.now a.count) false) (sym (eq-eqb _ _ (sym (held i) ∙ i.if-places-count.false)))
+    c.zeros_past.ensures ∙ ap (λ (t : Bool). cond t (zeros_past a.qs.now a.count) false) (sym (eq-eqb _ _ (sym (held i.before) ∙ i.if-places-count.false)))

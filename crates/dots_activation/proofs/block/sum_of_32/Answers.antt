@@ -20,19 +20,19 @@ small : (c : goal.In-loop-l) (i : ℕ) → i < 128 → Within 256 (elem c.args.p
 small c = c.requires.0.near
 
 pub overflow_add-s-in-loop-l-2 : goal.overflow_add-s-in-loop-l-2
-overflow_add-s-in-loop-l-2 c = both_fit w16 c.s-1.given c.s-in-loop-l-1.given (small c _ (omega arith)) (small c _ (omega arith)) tt
+overflow_add-s-in-loop-l-2 c = both_fit w16 c.s-1.given c.s-in-loop-l-1.given (small c.before.before _ (omega arith)) (small c.before.before _ (omega arith)) tt
 
 -- the turn's two pairs
 turn : (c : goal.After-s-in-loop-l-1)
-    → let b = c in
+    → let b = c.before.before.before in
     let a = b.args in
     let at : ℕ → ℤ = λ i. elem a.pairs.now (16 * a.j + i) in
     (to_z w16 (of_z w16 (to_z w16 (of_z w16 (at b.loop-l.l)) +ℤ to_z w16 (of_z w16 (elem a.pairs.now (16 * a.j + 8 + b.loop-l.l))))) ≡ at b.loop-l.l +ℤ at (8 + b.loop-l.l))
     × Within 512 (at b.loop-l.l +ℤ at (8 + b.loop-l.l))
 turn c =
-    let b = c in
+    let b = c.before.before.before in
     let a = b.args in
-    let n = small c in (
+    let n = small c.before.before in (
       both_are w16 c.s-1.given c.s-in-loop-l-1.given (n _ (omega arith)) (n _ (omega arith)) tt
           ∙ ap (λ (i : ℕ). elem a.pairs.now (16 * a.j + b.loop-l.l) +ℤ elem a.pairs.now i) (add_assoc (16 * a.j) 8 b.loop-l.l),
       add_within (n (16 * a.j + b.loop-l.l) (omega arith)) (n (16 * a.j + (8 + b.loop-l.l)) (omega arith)),

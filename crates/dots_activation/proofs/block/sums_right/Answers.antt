@@ -28,30 +28,30 @@ overflow_cast-sum_of_32 c = rw (read_is w16 _ c.sum_of_32.type_inv) (fits_within
 
 -- the turn's sum, as it is compared
 sum_is : (c : goal.After-sum_of_32)
-    → let b = c in
+    → let b = c.before.before.before in
     to_z w16 (of_z w16 c.sum_of_32.result) ≡ sum_of_32 b.args.qs.now b.loop-j.j
 sum_is c =
-    let b = c in
+    let b = c.before.before.before in
     let t = b.pairs-t in
     read_is w16 _ c.sum_of_32.type_inv ∙ c.sum_of_32.ensures.0 ∙ pairs_sum (elem b.args.qs.now) t.result b.loop-j.j t.ensures.0 (omega arith)
 
 pub returns-then-sum_of_32-bsums : goal.returns-then-sum_of_32-bsums
 unfolding sums_right
 returns-then-sum_of_32-bsums c =
-    let s = c in
+    let s = c.before.before in
     (sym (every_not _ 8 s.loop-j.j (omega arith) (eq_z_not _ _ (λ e. c.if-sum_of_32-bsums.true (ap (of_z w32) (sum_is s ∙ e))))), λ e. absurd (false≢true e))
 
 -- the claim is the sum
 claimed : (c : goal.Else-sum_of_32-bsums)
-    → let b = c in
+    → let b = c.before.before.before.before.before in
     sum_of_32 b.args.qs.now b.loop-j.j ≡ elem b.args.bsums.now b.loop-j.j
 claimed c =
-    let s = c in
+    let s = c.before.before in
     sym (sum_is s) ∙ sym (to_z-of_z w32 _ (overflow_cast-sum_of_32 s)) ∙ ap (to_z w32) c.if-sum_of_32-bsums.false ∙ read_is w32 _ c.t13-1.given
 
 pub loop-j-preserved : goal.loop-j-preserved
 loop-j-preserved c =
-    let s = c in
+    let s = c.before.before in
     let l = s.loop-j in
     let r = s.sum_of_32 in
     let e = claimed c in

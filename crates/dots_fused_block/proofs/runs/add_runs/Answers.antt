@@ -18,9 +18,9 @@ loop-e-init c = (omega arith, lanes_none _ _)
 
 pub loop-e-preserved : goal.loop-e-preserved
 loop-e-preserved c =
-    let b = c in
+    let b = c.before.before.before.before in
     let s = b.scales_q6k-scales in
-    let t = b in
+    let t = b.before.before.before.before in
     let a = t.args in
     let e = b.loop-e.e in
     grown_more a.l b.loop-e.out _ (block_terms Q6K a.x.now a.block.now (wholes a.q.now)) _ 16 16 e (omega arith) (omega arith) (omega arith)
@@ -28,6 +28,6 @@ loop-e-preserved c =
 
 pub returns : goal.returns
 returns c =
-    let b = c in
+    let b = c.before in
     let a = b.args in
     grown_done a.l b.loop-e.out (block_terms Q6K a.x.now a.block.now (wholes a.q.now)) 16 16 b.loop-e.e (omega arith) b.loop-e.invariant

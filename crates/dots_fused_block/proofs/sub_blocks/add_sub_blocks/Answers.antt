@@ -19,8 +19,8 @@ loop-j-init c = (refl, c.requires.0, (omega arith, lanes_none _ _))
 
 pub loop-j-preserved : goal.loop-j-preserved
 loop-j-preserved c =
-    let d = c in
-    let b = d in
+    let d = c.before.before in
+    let b = d.before.before.before.before.before in
     let s = b.scales_and_minimums-both in
     let a = b.args in
     let at = b.loop-j.at in
@@ -36,6 +36,6 @@ shape_of-l c = c.loop-j.invariant.1 ∙ sym c.requires.0
 
 pub returns : goal.returns
 returns c =
-    let b = c in
+    let b = c.before in
     let a = b.args in
     grown_done a.l.now b.loop-j.l (block_terms Q4K a.x.now a.block.now (wholes a.q.now)) 32 8 b.loop-j.j (omega arith) b.loop-j.invariant.2

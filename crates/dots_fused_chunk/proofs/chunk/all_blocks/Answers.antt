@@ -19,7 +19,7 @@ returns-then-n-eq0 c =
 room : (c : goal.After-block_bytes-size)
     → length c.args.x.now / 256 * c.block_bytes-size.result + c.block_bytes-size.result ≤ length c.args.w.now
 room c =
-    let t = c in
+    let t = c.before.before.before.before.before in
     let n = length t.args.x.now in
     block_room t.args.format (n / 256) c.block_bytes-size.result n (length t.args.w.now) c.block_bytes-size.ensures t.requires (omega arith)
 
@@ -30,12 +30,12 @@ pub overflow_add-to : goal.overflow_add-to
 overflow_add-to c = omega (arith, room c)
 
 pub slice_bounds-add_short-end-2 : goal.slice_bounds-add_short-end-2
-slice_bounds-add_short-end-2 c = omega (arith, room c)
+slice_bounds-add_short-end-2 c = omega (arith, room c.before)
 
 pub returns : goal.returns
 unfolding lanes
 returns c =
-    let d = c in
+    let d = c.before.before.before in
     let size = d.block_bytes-size in
     let l = d.whole_blocks-l in
     let a = d.args in

@@ -16,11 +16,11 @@ use Rattle.dots_fused_chunk.proofs.chunk.chunk_dot.Goals as goal
 
 -- what the row has left from the chunk's first block on lies within the bytes from there on
 room : (c : goal.After-block_bytes)
-    → (let t = c in
+    → (let t = c.before.before.before.before in
     let from = 8192 * t.args.c / 256 * c.block_bytes.result in
     (from ≤ length t.args.w.now) × (t.args.n - 8192 * t.args.c ≤ values_of (OfK t.args.format) (length t.args.w.now - from)))
 room c =
-    let t = c in
+    let t = c.before.before.before.before in
     let a = t.args in
     rest_room a.format (8192 * a.c / 256) c.block_bytes.result a.n (a.n - 8192 * a.c) (length a.w.now) c.block_bytes.ensures t.requires.2 (omega arith)
 
@@ -28,15 +28,15 @@ pub overflow_mul-from : goal.overflow_mul-from
 overflow_mul-from c = omega (arith, room c)
 
 pub slice_bounds-all_blocks-count-2 : goal.slice_bounds-all_blocks-count-2
-slice_bounds-all_blocks-count-2 c = omega (arith, room c)
+slice_bounds-all_blocks-count-2 c = omega (arith, room c.before)
 
 pub slice_bounds-all_blocks-start-2 : goal.slice_bounds-all_blocks-start-2
-slice_bounds-all_blocks-start-2 c = omega (arith, room c)
+slice_bounds-all_blocks-start-2 c = omega (arith, room c.before)
 
 pub all_blocks-requires : goal.all_blocks-requires
 all_blocks-requires c =
-    let d = c in
-    let t = d in
+    let d = c.before.before in
+    let t = d.before.before.before.before in
     let from = 8192 * t.args.c / 256 * d.block_bytes.result in
     let r = room d in
     rw (part_length t.args.w.now from (length t.args.w.now - from) (length t.args.w.now) (omega arith) (le_refl _)) (omega (arith, r.1))
@@ -44,7 +44,7 @@ all_blocks-requires c =
 pub returns : goal.returns
 unfolding chunk_sum
 returns c =
-    let d = c in
+    let d = c.before.before.before.before in
     let a = d.args in
     let s = 8192 * a.c in
     let e = d.chunk_end-e.result in

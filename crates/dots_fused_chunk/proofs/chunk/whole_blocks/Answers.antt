@@ -16,7 +16,7 @@ loop-b-init c = (omega arith, lanes_none _ _)
 room : (c : goal.In-loop-b)
     → c.loop-b.b * c.block_bytes-size.result + c.block_bytes-size.result ≤ length c.args.w.now
 room c =
-    let t = c in
+    let t = c.before.before.before.before.before in
     let size = c.block_bytes-size in
     block_room t.args.format c.loop-b.b size.result (length t.args.x.now) (length t.args.w.now) size.ensures t.requires (omega arith)
 
@@ -27,11 +27,11 @@ pub overflow_add-to : goal.overflow_add-to
 overflow_add-to c = omega (arith, room c)
 
 pub slice_bounds-add_block-end-in-loop-b : goal.slice_bounds-add_block-end-in-loop-b
-slice_bounds-add_block-end-in-loop-b c = omega (arith, room c)
+slice_bounds-add_block-end-in-loop-b c = omega (arith, room c.before)
 
 pub loop-b-preserved : goal.loop-b-preserved
 loop-b-preserved c =
-    let b = c in
+    let b = c.before.before.before.before in
     let size = b.block_bytes-size in
     let a = b.args in
     let i = b.loop-b.b in
@@ -41,6 +41,6 @@ loop-b-preserved c =
 pub returns : goal.returns
 unfolding lanes
 returns c =
-    let b = c in
+    let b = c.before in
     let a = b.args in
     grown_done _ b.loop-b.out (terms a.format a.x.now a.w.now) 256 (length a.x.now / 256) b.loop-b.b (omega arith) b.loop-b.invariant

@@ -18,7 +18,7 @@ use Rattle.dots_integer.proofs.dot.first_dot.Goals as goal
 pub returns-then-w-size : goal.returns-then-w-size
 unfolding block_dot_says
 returns-then-w-size c =
-    let i = c in
+    let i = c.before in
     ap refused c.weights_short.ensures ∙ sym (given_yes _ _ _ (lt-ltb _ _ (rw i.block_bytes-size.ensures at i.if-w-size.true)))
 
 -- the weights are enough
@@ -27,35 +27,35 @@ enough c = le-ltb _ _ (rw c.block_bytes-size.ensures at c.if-w-size.false)
 
 pub returns-then-not-count_serves : goal.returns-then-not-count_serves
 unfolding block_dot_says
-returns-then-not-count_serves c = sym (given_no _ _ _ (enough c) ∙ given_yes _ _ _ (rw c.count_serves.ensures at c.if-not-count_serves.true-raw))
+returns-then-not-count_serves c = sym (given_no _ _ _ (enough c.before.before) ∙ given_yes _ _ _ (rw c.count_serves.ensures at c.if-not-count_serves.true-raw))
 
 pub returns-then-not-sums_serve : goal.returns-then-not-sums_serve
 unfolding block_dot_says
 returns-then-not-sums_serve c =
-    let k = c in
-    sym (given_no _ _ _ (enough k) ∙ given_no _ _ _ (rw k.count_serves.ensures at k.if-not-count_serves.false-raw) ∙ given_yes _ _ _ (rw c.sums_serve.ensures.0 at c.if-not-sums_serve.true-raw))
+    let k = c.before.before in
+    sym (given_no _ _ _ (enough k.before.before) ∙ given_no _ _ _ (rw k.count_serves.ensures at k.if-not-count_serves.false-raw) ∙ given_yes _ _ _ (rw c.sums_serve.ensures.0 at c.if-not-sums_serve.true-raw))
 
 pub slice_bounds-block_dot-end : goal.slice_bounds-block_dot-end
 slice_bounds-block_dot-end c =
-    let b = c in
+    let b = c.before.before.before.before.before.before in
     sym (length-take-le b.block_bytes-size.result b.args.w.now (omega arith))
 
 pub block_dot-requires : goal.block_dot-requires
 block_dot-requires c =
-    let i = c in
+    let i = c.before.before.before in
     let r = i.sums_serve in
-    let b = i in
+    let b = i.before.before.before.before.before in
     let size = b.block_bytes-size in
     (length-take-le size.result b.args.w.now (omega arith) ∙ size.ensures, search rules, search rules, r.ensures.1 (not-false r.result i.if-not-sums_serve.false-raw))
 
 pub returns : goal.returns
 unfolding block_dot_says
 returns c =
-    let i = c in
-    let k = i in
+    let i = c.before.before.before.before in
+    let k = i.before.before in
     let s = k.count_serves in
-    let e = k in
-    let b = e in
+    let e = k.before.before in
+    let b = e.before in
     let a = b.args in
     ap value (c.block_dot.ensures
     ∙ ap (λ (m : ℕ). block_dot a.format (take m a.w.now) a.d a.qs.now a.sums.now 256) b.block_bytes-size.ensures

@@ -18,13 +18,13 @@ loop-b-init c = dots_start _ _ _ _ _ refl
 
 -- block b lies within the row
 inside : (c : goal.After-block_end-e)
-    → (let l = c in
+    → (let l = c.before.before in
     let size = l.block_bytes-size.result in
     l.loop-b.b * size + size ≤ length l.args.w.now)
 inside c =
-    let l = c in
+    let l = c.before.before in
     let r = l.block_bytes-size in
-    let s = l in
+    let s = l.before.before.before.before.before in
     let room : stretches_in 256 s.args.n * r.result ≤ length s.args.w.now = rw r.ensures s.requires.2 in
     within l.loop-b.b r.result (stretches_in 256 s.args.n) (length s.args.w.now) (omega arith) room
 
@@ -36,19 +36,19 @@ overflow_add-to c = omega (arith, inside c)
 
 pub quantized_block-block-requires : goal.quantized_block-block-requires
 quantized_block-block-requires c =
-    let b = c in
-    let t = b in
+    let b = c.before in
+    let t = b.before.before in
     let s = 256 * t.loop-b.b in
     omega (arith, part_length t.args.x.now s (b.block_end-e.result - s) b.block_end-e.result (omega arith) (omega arith))
 
 pub slice_bounds-block_dot-count : goal.slice_bounds-block_dot-count
-slice_bounds-block_dot-count c = omega (arith, inside c)
+slice_bounds-block_dot-count c = omega (arith, inside c.before.before.before.before)
 
 pub slice_bounds-block_dot-start : goal.slice_bounds-block_dot-start
-slice_bounds-block_dot-start c = omega (arith, inside c)
+slice_bounds-block_dot-start c = omega (arith, inside c.before.before.before.before)
 
 pub slice_bounds-block_dot-end : goal.slice_bounds-block_dot-end
-slice_bounds-block_dot-end c = omega (arith, inside c)
+slice_bounds-block_dot-end c = omega (arith, inside c.before.before.before.before)
 
 -- the block is long enough
 long : (c : goal.After-quantized_block-block) → (length c.quantized_block-block.result.qs ≡ 256) × (length c.quantized_block-block.result.bsums ≡ 8)
@@ -57,16 +57,16 @@ long c =
     (ap (λ (b : Q8Block). length b.qs) e ∙ (block_long _).0, ap (λ (b : Q8Block). length b.bsums) e ∙ (block_long _).1)
 
 pub slice_bounds-block_dot-end-in-loop-b : goal.slice_bounds-block_dot-end-in-loop-b
-slice_bounds-block_dot-end-in-loop-b c = sym (long c).0
+slice_bounds-block_dot-end-in-loop-b c = sym (long c.before.before.before.before).0
 
 pub slice_bounds-block_dot-end-in-loop-b-2 : goal.slice_bounds-block_dot-end-in-loop-b-2
-slice_bounds-block_dot-end-in-loop-b-2 c = sym (long c).1
+slice_bounds-block_dot-end-in-loop-b-2 c = sym (long c.before.before.before.before.before).1
 
 pub block_dot-requires : goal.block_dot-requires
 block_dot-requires c =
-    let q = c in
-    let e = q in
-    let t = e in
+    let q = c.before.before.before.before.before in
+    let e = q.before.before in
+    let t = e.before.before in
     let size = t.block_bytes-size in
     let a = t.args in
     let from = t.loop-b.b * size.result in
@@ -74,10 +74,10 @@ block_dot-requires c =
 
 pub loop-b-preserved : goal.loop-b-preserved
 loop-b-preserved c =
-    let made = c in
+    let made = c.before.before.before.before.before.before in
     let q = made.quantized_block-block in
     let e = made.block_end-e in
-    let t = made in
+    let t = made.before.before.before.before in
     let size = t.block_bytes-size in
     let a = t.args in
     let v = c.block_dot.ensures ∙ block_is a.format a.x.now a.w.now a.n t.loop-b.b e.result size.result q.result size.ensures e.ensures.0 q.ensures in
@@ -85,12 +85,12 @@ loop-b-preserved c =
 
 pub slice_bounds-canonical_combine-end : goal.slice_bounds-canonical_combine-end
 slice_bounds-canonical_combine-end c =
-    let b = c in
+    let b = c.before.before in
     sym (length-take-le b.blocks_in-blocks.result b.loop-b.dots (omega arith))
 
 pub returns : goal.returns
 returns c =
-    let b = c in
+    let b = c.before.before.before.before in
     let a = b.args in
     let m = b.blocks_in-blocks in
     dots_met a.format a.x.now a.w.now a.n _ b.loop-b.dots _ b.loop-b.b m.result _ (omega arith) m.ensures c.canonical_combine.ensures b.loop-b.invariant

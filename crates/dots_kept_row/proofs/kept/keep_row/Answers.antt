@@ -33,30 +33,30 @@ long c =
     (ap (λ (b : Q8Block). length b.qs) e ∙ (block_long _).0, ap (λ (b : Q8Block). length b.bsums) e ∙ (block_long _).1)
 
 pub slice_bounds-lay_quants-end : goal.slice_bounds-lay_quants-end
-slice_bounds-lay_quants-end c = sym (long c).0
+slice_bounds-lay_quants-end c = sym (long c.before.before).0
 
 pub lay_quants-requires : goal.lay_quants-requires
 lay_quants-requires c =
-    let k = c in
+    let k = c.before.before.before in
     let l = k.loop-t in
     let from = 256 * l.t in
     (long k).0 ∙ sym (part_length l.qs from 256 (from + 256) refl (omega arith))
 
 pub slice_bounds-lay_sums-end : goal.slice_bounds-lay_sums-end
-slice_bounds-lay_sums-end c = sym (long c).1
+slice_bounds-lay_sums-end c = sym (long c.before.before.before.before.before.before.before).1
 
 pub lay_sums-requires : goal.lay_sums-requires
 lay_sums-requires c =
-    let k = c in
+    let k = c.before.before.before.before.before.before.before.before in
     let l = k.loop-t in
     let at = 8 * l.t in
     (long k).1 ∙ sym (part_length l.sums at 8 (at + 8) refl (omega arith))
 
 pub loop-t-preserved : goal.loop-t-preserved
 loop-t-preserved c =
-    let s = c in
-    let q = s in
-    let k = q in
+    let s = c.before in
+    let q = s.before.before.before.before.before in
+    let k = q.before.before.before.before in
     let b = k.quantized_block-block.result in
     let l = k.loop-t in
     let x = k.args.x.now in
@@ -66,7 +66,7 @@ loop-t-preserved c =
     let is : b ≡ block_of (take 256 (drop from x)) = k.quantized_block-block.ensures ∙ ap (λ (z : ℕ). block_of (take z (drop from x))) width in
     let laid = q.lay_quants.ensures in
     let summed = s.lay_sums.ensures in
-    let r = room k in (
+    let r = room k.before.before in (
       r.0,
       length-set l.ds l.t b.d ∙ l.invariant.1,
       laid_long l.qs q.lay_quants.new.out from 256 (from + 256) refl r.2 (ap length laid ∙ (long k).0) ∙ l.invariant.2,

@@ -28,7 +28,7 @@ long : (c : goal.At-loop-j) → length c.loop-j.lanes ≡ 8
 long c = ap length c.loop-j.invariant.1 ∙ length_table _ 8
 
 pub loop-l-init : goal.loop-l-init
-loop-l-init c = filling_start _ _ 8 (long c)
+loop-l-init c = filling_start _ _ 8 (long c.before.before)
 
 element_copy_out_weighed_pairs :
     goal.bounds-p-low decreases-loop
@@ -40,7 +40,7 @@ element_copy_out_weighed_pairs_2 c = omega arith
 
 pub weighed_pairs-requires : goal.weighed_pairs-requires
 weighed_pairs-requires c =
-    let s = c in
+    let s = c.before.before.before.before in
     let n = s.requires.1.near in (
       s.scale_q4k-scale.ensures.1,
       subst (Within 7936) (sym (read_is w16 _ c.weighed_pairs-arg-1.given)) (n _ (omega arith)),
@@ -50,7 +50,7 @@ weighed_pairs-requires c =
 -- lane l, to which sub-block j comes
 module _ (c : goal.After-lanes-1) where
   abbrev in_lane : goal.At-loop-l
-  in_lane = c
+  in_lane = c.before.before.before.before.before
 
   abbrev at_block : goal.At-loop-j
   at_block = in_lane.before.before.before
@@ -100,14 +100,14 @@ loop-l-preserved c =
 
 pub loop-j-preserved : goal.loop-j-preserved
 loop-j-preserved c =
-    let d = c in
+    let d = c.before in
     let s = d.scale_q4k-scale in
-    let o = d in
+    let o = d.before.before.before in
     (omega arith, filling_done _ _ 8 d.loop-l.lanes d.loop-l.l (long o) d.loop-l.invariant (omega arith), below_more _ _ o.loop-j.invariant.2 (subst (λ (n : ℕ). n < 64) s.ensures.0 s.ensures.1))
 
 pub returns : goal.returns
 returns c =
-    let o = c in
+    let o = c.before in
     let a = o.args in
     let w = a.w.now in
     let p = a.p.now in

@@ -20,16 +20,16 @@ overflow_cast-minimum_q4k c = record { sfits = omega (arith, c.minimum_q4k.ensur
 
 pub weighed-m-requires : goal.weighed-m-requires
 weighed-m-requires c =
-    let b = c in
+    let b = c.before.before.before in
     rw (read_is w32 _ c.weighed-arg-1.given) (within (b.requires.2.near b.loop-j.j (omega arith)) (omega arith))
 
 -- the turn's product
 turn : (c : goal.After-weighed-m)
-    → let b = c in
+    → let b = c.before.before.before.before in
     let a = b.args in
     c.weighed-m.result ≡ pos (minimum_q4k a.w.now b.loop-j.j) *ℤ elem a.sums.now b.loop-j.j
 turn c =
-    let b = c in
+    let b = c.before.before.before.before in
     let a = b.args in
     let m = c.minimum_q4k in
     (rw (read_is w32 _ c.weighed-arg-1.given, to_z_pos w8 m.result (omega (arith, m.ensures.1))) at c.weighed-m.ensures.0)

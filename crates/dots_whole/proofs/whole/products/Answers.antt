@@ -25,8 +25,8 @@ loop-g-init c = (parts_none (pair_of (product_at c.args.q.now c.args.x.now)) (re
 
 pub two_sub_blocks-requires : goal.two_sub_blocks-requires
 two_sub_blocks-requires c =
-    let d = c in
-    let t = d in
+    let d = c.before.before.before.before in
+    let t = d.before.before in
     let g = d.loop-g.g in
     let h : g < 4 = omega arith in
     let q = t.requires.1 in
@@ -35,7 +35,7 @@ two_sub_blocks-requires c =
 pub loop-g-preserved : goal.loop-g-preserved
 loop-g-preserved c =
     let r = c.two_sub_blocks.ensures in
-    let d = c in
+    let d = c.before.before.before.before.before.before in
     let a = d.args in
     let g = d.loop-g.g in
     let f : ℕ → ℤ = pair_of (product_at a.q.now a.x.now) in

@@ -20,12 +20,12 @@ weighed-a-requires c = rw (read_is w32 _ c.run.type_inv) c.run.ensures.1
 
 -- the turn's run
 turn : (c : goal.After-weighed-a)
-    → let b = c in
+    → let b = c.before.before.before.before.before in
     let a = b.args in
     c.weighed-a.result ≡ stretch_weighs Q6K a.w.now (elem a.q.now) a.x.now 16 b.loop-e.e
 unfolding scale_q6k
 turn c =
-    let b = c in
+    let b = c.before.before.before.before.before in
     let a = b.args in
     let s = c.signed_byte in
     let r = c.run in

@@ -15,15 +15,15 @@ spelt_out c = c.decimal-n_digits.ensures.len.1 ∙ spelt c.decimal-n_digits.resu
 
 pub put-requires : goal.put-requires
 put-requires c =
-    let d = c in
+    let d = c.before.before.before.before.before.before.before in
     omega (arith, ap length (spelt_out d), length_decimal d.args.n)
 
 pub returns : goal.returns
 unfolding field
 returns c =
-    let p = c in
-    let q = p in
-    let d = q in
+    let p = c.before.before in
+    let q = p.before.before.before.before.before in
+    let d = q.before.before.before in
     let args = d.args in
     let digits = spelt_out d in
     let room : args.at ≤ length args.line.now = omega arith in record {

@@ -26,7 +26,7 @@ module _ (c : goal.After-close-closed) where
       ◌≡◌ {A = Said (Unit {0}) × List Float} (outcome_says c.close-closed.result, c.close-closed.new.y) (done, set l.y l.row (row_met a.l a.slots.now l.row)))
   turn =
       let l = c.loop-row in
-      let t = c in
+      let t = c.before.before.before.before.before.before.before in
       let a = t.args in
       c.close-closed.ensures ∙ closes a.l (memory a.slots.now a.marks.now) l.y l.row t.requires.0 (omega (arith, l.invariant.2, t.requires.1)) c.loop-row-test.true
 
@@ -40,14 +40,14 @@ module _ (c : goal.After-close-closed) where
   filled_on = ap (λ (p : Said (Unit {0}) × List Float). p.1) turn
 
 pub shape_of-y-in_default : goal.shape_of-y-in_default
-shape_of-y-in_default c = absurd (never_refused _ _ (closed c) c.in_default.is)
+shape_of-y-in_default c = absurd (never_refused _ _ (closed c.before.before.before) c.in_default.is)
 
 pub returns-in_default : goal.returns-in_default
-returns-in_default c = absurd (never_refused _ _ (closed c) c.in_default.is)
+returns-in_default c = absurd (never_refused _ _ (closed c.before.before.before) c.in_default.is)
 
 pub loop-row-preserved : goal.loop-row-preserved
 loop-row-preserved c =
-    let d = c in
+    let d = c.before.before.before in
     let l = d.loop-row in
     let a = d.args in
     let within : l.row < length a.y.now = omega (arith, d.loop-row-test.true, d.requires.1) in

@@ -13,7 +13,7 @@ use Rattle.fillin_window.proofs.outputs.fill_outputs.Goals as goal
 -- after the run every piece is done, and each row meets in its dot
 module _ (c : goal.After-run-ran) where
   abbrev pieced : goal.After-piece
-  pieced = c
+  pieced = c.before.before.before.before.before
 
   abbrev opened : goal.After-open-opened
   opened = pieced.before.before.before.before.before.before.before
@@ -31,17 +31,17 @@ module _ (c : goal.After-run-ran) where
 -- open does not refuse
 opens : (c : goal.After-open-opened) → outcome_says c.«open».result ≡ done
 opens c =
-    let t = c in
+    let t = c.before.before.before.before.before.before in
     ap (λ (p : Said (Unit {0}) × Memory). p.0) c.«open».ensures ∙ open_done t.args.l t.args.w.now t.args.x.now t.requires.0 t.requires.1 _ (refl, refl)
 
 pub returns-in_default : goal.returns-in_default
-returns-in_default c = absurd (never_refused _ _ (opens c) c.in_default.is)
+returns-in_default c = absurd (never_refused _ _ (opens c.before.before.before) c.in_default.is)
 
 pub returns-in-Refused : goal.returns-in-Refused
-returns-in-Refused c = absurd ((facts c).not_refused _ (ap progress_says c.in-Refused.is))
+returns-in-Refused c = absurd ((facts c.before.before.before).not_refused _ (ap progress_says c.in-Refused.is))
 
 pub close_rows-requires : goal.close_rows-requires
-close_rows-requires c = let f = facts c in (f.runs_out, c.requires.2)
+close_rows-requires c = let f = facts c.before.before.before.before.before.before in (f.runs_out, c.requires.2)
 
 pub returns : goal.returns
-returns c = let f = facts c in record { result_value = c.close_rows.ensures.result_value; y_after = c.close_rows.ensures.y_after ∙ f.dots _ }
+returns c = let f = facts c.before.before.before.before.before.before.before.before.before in record { result_value = c.close_rows.ensures.result_value; y_after = c.close_rows.ensures.y_after ∙ f.dots _ }

@@ -21,4 +21,4 @@ pub u16_at-requires : goal.u16_at-requires
 u16_at-requires c = omega (arith, whole_size _ (stands c))
 
 pub returns : goal.returns
-returns c = ap Whole c.u16_at.ensures.0 ∙ ap front_of (sym (frame_whole _ (stands c)))
+returns c = ap Whole c.u16_at.ensures.0 ∙ ap front_of (sym (frame_whole _ (stands c.before)))

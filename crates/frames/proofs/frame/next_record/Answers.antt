@@ -26,9 +26,9 @@ module _ (c : goal.Else-size-rest) where
 pub returns-then-ended : goal.returns-then-ended
 returns-then-ended c =
     let rest = c.args.rest.now in
-    sym (next_left rest (short c)) ∙ ap (next_in rest) (sym c.if-ended.true)
+    sym (next_left rest (short c.before)) ∙ ap (next_in rest) (sym c.if-ended.true)
 
 pub returns : goal.returns
 returns c =
     let rest = c.args.rest.now in
-    sym (next_more rest (short c)) ∙ ap (next_in rest) (sym c.if-ended.false)
+    sym (next_more rest (short c.before)) ∙ ap (next_in rest) (sym c.if-ended.false)

@@ -16,7 +16,7 @@ stands c = sym c.is_whole.ensures ∙ c.if-is_whole.true
 within : (c : goal.After-size_of-to) → (6 ≤ c.type_size.result) × (c.type_size.result ≤ length c.args.s.now)
 within c =
     let n = c.type_size.ensures.0 in
-    let w = whole_size _ (stands c) in
+    let w = whole_size _ (stands c.before) in
     (omega arith, omega arith)
 
 pub slice_bounds-result-count : goal.slice_bounds-result-count
@@ -31,7 +31,7 @@ slice_bounds-result-end c = omega (arith, within c)
 pub returns-then-is_whole : goal.returns-then-is_whole
 returns-then-is_whole c =
     let s = c.args.s.now in
-    ap (λ (n : ℕ). part s 6 (n - 6)) c.type_size.ensures.0 ∙ ap payload_of (sym (frame_whole s (stands c)))
+    ap (λ (n : ℕ). part s 6 (n - 6)) c.type_size.ensures.0 ∙ ap payload_of (sym (frame_whole s (stands c.before.before)))
 
 pub returns-else-is_whole : goal.returns-else-is_whole
 returns-else-is_whole c = sym (frame_none _ (sym c.is_whole.ensures ∙ c.if-is_whole.false)).0

@@ -13,7 +13,7 @@ stands : (c : goal.Then-is_whole) → is_whole c.args.s.now ≡ true
 stands c = sym c.is_whole.ensures ∙ c.if-is_whole.true
 
 within : (c : goal.After-size_of-from) → c.type_size.result ≤ length c.args.s.now
-within c = let n = c.type_size.ensures.0 in omega (arith, whole_size _ (stands c))
+within c = let n = c.type_size.ensures.0 in omega (arith, whole_size _ (stands c.before))
 
 pub slice_bounds-result-count : goal.slice_bounds-result-count
 slice_bounds-result-count c = omega (arith, within c)
@@ -27,7 +27,7 @@ returns-then-is_whole c =
     let n = c.type_size.result in
     take_all (length s - n) (drop n s) (rw length-drop (omega arith))
     ∙ ap (λ (k : ℕ). drop k s) c.type_size.ensures.0
-    ∙ ap rest_of (sym (frame_whole s (stands c)))
+    ∙ ap rest_of (sym (frame_whole s (stands c.before.before)))
 
 pub returns-else-is_whole : goal.returns-else-is_whole
 returns-else-is_whole c = sym (frame_none _ (sym c.is_whole.ensures ∙ c.if-is_whole.false)).1

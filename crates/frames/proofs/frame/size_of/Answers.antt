@@ -15,7 +15,7 @@ u32_at-requires c = (good _ (is_good c)).0
 pub returns-then-good_length : goal.returns-then-good_length
 returns-then-good_length c =
     let n = c.u32_at.ensures.0 in
-    let g = is_good c in
+    let g = is_good c.before in
     (omega (arith, size_good _ g), omega (arith, good _ g))
 
 pub returns-else-good_length : goal.returns-else-good_length

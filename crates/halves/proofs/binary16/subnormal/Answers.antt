@@ -33,5 +33,5 @@ returns c =
     let s = eqb c.args.sign 1 in
     let a = c.args.mant in
     let k = count_leading_zeros 32 a - 21 in
-    let h : k + (113 - k) ≡ 113 = omega (arith, there c) in
-    c.normal.ensures ∙ ap (λ (z : ℕ). round binary32 s (z * 2 ^ (113 - k)) (2 ^ 137)) (kept c) ∙ shifted s a k (113 - k) h
+    let h : k + (113 - k) ≡ 113 = omega (arith, there c.before) in
+    c.normal.ensures ∙ ap (λ (z : ℕ). round binary32 s (z * 2 ^ (113 - k)) (2 ^ 137)) (kept c.before) ∙ shifted s a k (113 - k) h

@@ -26,7 +26,7 @@ overflow_add-q-in-loop-l-13 c = omega (arith, c.shared_slice_known-in-loop-l-4-1
 
 pub loop-l-preserved : goal.loop-l-preserved
 loop-l-preserved c =
-    let d = c in
+    let d = c.before.before.before.before.before.before in
     let bs = d.args.block.now in
     let l = d.loop-l.l in
     let h : l < 32 = c.loop-l-test.true in

@@ -31,7 +31,7 @@ six_bits-requires-in-loop-l-7 c = omega (arith, c.shared_slice_known-in-loop-l-6
 
 pub loop-l-preserved : goal.loop-l-preserved
 loop-l-preserved c =
-    let m = c in
+    let m = c.before.before.before.before.before.before.before.before.before.before.before.before.before.before.before in
     let bs = m.args.block.now in
     let l = m.loop-l.l in
     let k : l < 32 = c.loop-l-test.true in

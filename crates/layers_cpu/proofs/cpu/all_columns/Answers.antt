@@ -35,7 +35,7 @@ fit t = cpu_fits t.args.format t.args.s (length t.args.x.now) (length t.args.w.n
 pub returns-then-s-eq0 : goal.returns-then-s-eq0
 unfolding cpu_says outputs scratch_after
 returns-then-s-eq0 c =
-    let t = c in
+    let t = c.before.before.before.before.before.before in
     let s = t.args.s in
     let nothing : s.batch * s.out_feat ≡ 0 = ap (λ (b : ℕ). b * s.out_feat) c.if-s-eq0.true ∙ zero-mul s.out_feat in
     let last = filled (row_weight t.args.format t.args.w.now s.in_feat (s.out_feat - 1)) t.args.scratch.now s.in_feat in
@@ -47,12 +47,12 @@ loop-o-init c = (columns_none _ _ _ _, scratch_none _ _ _ _, zero-le, refl, refl
 
 -- row o lies within the weights, and scratch has room for it
 facts : (c : goal.In-loop-o)
-    → (let t = c in
+    → (let t = c.before.before.before.before.before.before.before.before in
     let n = t.args.s.in_feat in
     let o = c.loop-o.o in
     (o * n + n ≤ values_of t.args.format (length t.args.w.now)) × (o * n + n ≤ 8589934592) × (length (take n c.loop-o.scratch) ≡ n) × (n ≤ length c.loop-o.scratch))
 facts c =
-    let t = c in
+    let t = c.before.before.before.before.before.before.before.before in
     let f = fit t in
     let s = t.args.s in
     let n = s.in_feat in
@@ -72,41 +72,41 @@ pub slice_bounds-decode_row-end : goal.slice_bounds-decode_row-end
 slice_bounds-decode_row-end c = (facts c).3
 
 pub slice_bounds-decode_row-end-in-loop-o : goal.slice_bounds-decode_row-end-in-loop-o
-slice_bounds-decode_row-end-in-loop-o c = sym (facts c).2
+slice_bounds-decode_row-end-in-loop-o c = sym (facts c.before).2
 
 pub decode_row-requires : goal.decode_row-requires
-decode_row-requires c = let k = facts c in rw k.2 (k.0, omega (arith, k.1))
+decode_row-requires c = let k = facts c.before in rw k.2 (k.0, omega (arith, k.1))
 
 -- what scratch has at its front now
 decoded : (c : goal.After-decode_row)
-    → (let d = c in
+    → (let d = c.before.before in
     let a = d.args in
     let n = a.s.in_feat in
     c.decode_row.new.out ≡ table (row_weight a.format a.w.now n d.loop-o.o) n)
 decoded c =
-    let d = c in
+    let d = c.before.before in
     let a = d.args in
     c.decode_row.ensures ∙ ap (table (row_weight a.format a.w.now a.s.in_feat d.loop-o.o)) (facts d).2
 
 row_is : (c : goal.After-decode_row)
-    → (let d = c in
+    → (let d = c.before.before in
     let a = d.args in
     let n = a.s.in_feat in
     take n (c.decode_row.new.out ++ drop n d.loop-o.scratch) ≡ table (row_weight a.format a.w.now n d.loop-o.o) n)
 row_is c =
-    let d = c in
+    let d = c.before.before in
     let a = d.args in
     let n = a.s.in_feat in
     let row = row_weight a.format a.w.now n d.loop-o.o in
     take_at c.decode_row.new.out (drop n d.loop-o.scratch) n (ap length (decoded c) ∙ length_table row n) ∙ decoded c
 
 whole : (c : goal.After-decode_row)
-    → (let d = c in
+    → (let d = c.before.before in
     let a = d.args in
     length (c.decode_row.new.out ++ drop a.s.in_feat d.loop-o.scratch) ≡ length a.scratch.now)
 whole c =
-    let d = c in
-    let t = d in
+    let d = c.before.before in
+    let t = d.before.before.before.before.before.before.before.before in
     let a = t.args in
     let n = a.s.in_feat in
     let l = d.loop-o in
@@ -114,16 +114,16 @@ whole c =
     ∙ length_scratch a.format a.w.now n a.scratch.now (l.o + 1) (fit t).spare
 
 pub slice_bounds-fill_column-end : goal.slice_bounds-fill_column-end
-slice_bounds-fill_column-end c = omega (arith, whole c, (fit c).spare)
+slice_bounds-fill_column-end c = omega (arith, whole c.before.before, (fit c.before.before.before.before.before.before.before.before.before.before.before.before).spare)
 
 pub slice_bounds-fill_column-end-in-loop-o : goal.slice_bounds-fill_column-end-in-loop-o
-slice_bounds-fill_column-end-in-loop-o c = sym (ap length (row_is c) ∙ length_table _ _)
+slice_bounds-fill_column-end-in-loop-o c = sym (ap length (row_is c.before.before.before) ∙ length_table _ _)
 
 pub fill_column-filled-requires : goal.fill_column-filled-requires
 fill_column-filled-requires c =
-    let e = c in
-    let d = e in
-    let t = d in
+    let e = c.before.before.before.before in
+    let d = e.before.before in
+    let t = d.before.before.before.before.before.before.before.before in
     let f = fit t in
     let l = d.loop-o in record { batch_le_most_batch = (f.within.batch_in, f.within.in_in, f.within.out_in, d.loop-o-test.true); in_feat_in_bounds = (le_of_eq (sym f.read), ap length (row_is e) ∙ length_table _ _, le_of_eq (sym (l.invariant.3 ∙ f.room))) }
 
@@ -137,16 +137,16 @@ pub returns-in_default : goal.returns-in_default
 returns-in_default c = absurd (never_refused _ _ c.fill_column-filled.ensures.0 c.in_default.is)
 
 pub overflow_step-o : goal.overflow_step-o
-overflow_step-o c = let d = c in omega (arith, d.loop-o-test.true, (fit d).within.out_in)
+overflow_step-o c = let d = c.before.before.before.before.before.before.before.before.before.before in omega (arith, d.loop-o-test.true, (fit d.before.before.before.before.before.before.before.before).within.out_in)
 
 pub loop-o-smaller : goal.loop-o-smaller
 loop-o-smaller c = omega (arith, c.loop-o-test.true)
 
 pub loop-o-preserved : goal.loop-o-preserved
 loop-o-preserved c =
-    let e = c in
-    let d = e in
-    let t = d in
+    let e = c.before.before.before.before.before.before.before.before in
+    let d = e.before.before in
+    let t = d.before.before.before.before.before.before.before.before in
     let a = t.args in
     let n = a.s.in_feat in
     let outs = a.s.out_feat in
@@ -172,7 +172,7 @@ shape_of-scratch c = c.loop-o.invariant.4
 pub returns : goal.returns
 unfolding cpu_says outputs scratch_after
 returns c =
-    let t = c in
+    let t = c.before.before.before.before.before.before.before.before in
     let a = t.args in
     let s = a.s in
     let n = s.in_feat in

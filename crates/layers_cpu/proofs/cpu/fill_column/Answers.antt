@@ -28,7 +28,7 @@ facts : (c : goal.In-loop-b)
     let s = a.s in
     (b * s.in_feat + s.in_feat ≤ length a.x.now) × (b * s.out_feat + s.out_feat ≤ length a.y.now) × (b < 1024))
 facts c =
-    let t = c in
+    let t = c.before.before.before.before.before in
     let s = t.args.s in
     let b = c.loop-b.b in
     let h = c.loop-b-test.true in
@@ -54,13 +54,13 @@ slice_bounds-canonical_dot_pub-end c = omega (arith, facts c)
 
 -- what the dot of row b answers
 said : (c : goal.After-canonical_dot_pub-answer)
-    → (let d = c in
+    → (let d = c.before.before in
     let a = d.args in
     let n = a.s.in_feat in
     said_by c.canonical_dot_pub-answer.result ≡ value (row_sum (products (part a.x.now (d.loop-b.b * n) n) a.row.now) n))
 said c =
-    let d = c in
-    let t = d in
+    let d = c.before.before in
+    let t = d.before.before.before.before.before in
     let a = t.args in
     let n = a.s.in_feat in
     let from = d.loop-b.b * n in
@@ -75,22 +75,22 @@ pub shape_of-y-in_default : goal.shape_of-y-in_default
 shape_of-y-in_default c = c.loop-b.invariant.2
 
 pub returns-in_default : goal.returns-in_default
-returns-in_default c = absurd (no_refusal _ _ _ (said c) c.in_default.is)
+returns-in_default c = absurd (no_refusal _ _ _ (said c.before.before) c.in_default.is)
 
 pub overflow_mul-y : goal.overflow_mul-y
-overflow_mul-y c = let d = c in omega (arith, facts d, d.requires.batch_le_most_batch, d.loop-b.invariant.2)
+overflow_mul-y c = let d = c.before.before.before in omega (arith, facts d, d.requires.batch_le_most_batch, d.loop-b.invariant.2)
 
 pub overflow_add-y : goal.overflow_add-y
-overflow_add-y c = let d = c in omega (arith, facts d, d.requires.batch_le_most_batch, d.loop-b.invariant.2)
+overflow_add-y c = let d = c.before.before.before in omega (arith, facts d, d.requires.batch_le_most_batch, d.loop-b.invariant.2)
 
 pub offset_bounds-y-b : goal.offset_bounds-y-b
-offset_bounds-y-b c = let d = c in omega (arith, facts d, d.requires.batch_le_most_batch, d.loop-b.invariant.2)
+offset_bounds-y-b c = let d = c.before.before.before in omega (arith, facts d, d.requires.batch_le_most_batch, d.loop-b.invariant.2)
 
 pub bounds-y-b : goal.bounds-y-b
-bounds-y-b c = let d = c in omega (arith, facts d, d.requires.batch_le_most_batch, d.loop-b.invariant.2)
+bounds-y-b c = let d = c.before.before.before in omega (arith, facts d, d.requires.batch_le_most_batch, d.loop-b.invariant.2)
 
 pub overflow_step-b : goal.overflow_step-b
-overflow_step-b c = omega (arith, facts c)
+overflow_step-b c = omega (arith, facts c.before.before.before)
 
 pub loop-b-smaller : goal.loop-b-smaller
 loop-b-smaller c = omega (arith, c.loop-b-test.true)

@@ -20,82 +20,82 @@ returns-then-is_oversize c = simp (sym c.is_oversize.ensures, c.if-is_oversize.t
 pub returns-then-s-ne0 : goal.returns-then-s-ne0
 unfolding cpu_refusal given
 returns-then-s-ne0 c =
-    let a = c in
+    let a = c.before.before in
     simp (sym a.is_oversize.ensures, a.if-is_oversize.false, ne_eqb _ _ c.if-s-ne0.true)
 
 -- a row's bytes are few
 row_small : (c : goal.After-block_bytes-size) → c.args.s.in_feat / 32 * c.block_bytes-size.result ≤ 139264
 row_small c =
-    let a = c in
+    let a = c.before.before.before in
     let s = a.args.s in
     let size = c.block_bytes-size in
     let few : size.result ≤ 34 = rw size.ensures (least_32 a.args.format).1 in
     product_small (s.in_feat / 32) size.result 4096 34 (omega (arith, (sized a).in_in)) few
 
 pub overflow_mul-needed : goal.overflow_mul-needed
-overflow_mul-needed c = omega (arith, row_small c)
+overflow_mul-needed c = omega (arith, row_small c.before)
 
 pub overflow_mul-needed-2 : goal.overflow_mul-needed-2
 overflow_mul-needed-2 c =
-    let b = c in
-    omega (arith, product_small _ _ 65536 139264 (sized b).out_in (row_small b))
+    let b = c.before.before in
+    omega (arith, product_small _ _ 65536 139264 (sized b.before.before.before).out_in (row_small b))
 
 pub returns-then-weights-needed : goal.returns-then-weights-needed
 unfolding cpu_refusal given
 returns-then-weights-needed c =
-    let e = c in
-    let d = e in
-    let a = d in
+    let e = c.before in
+    let d = e.before.before.before.before in
+    let a = d.before.before in
     let size = e.block_bytes-size.ensures in
     simp (sym size, sym a.is_oversize.ensures, a.if-is_oversize.false, eq-eqb _ _ d.if-s-ne0.false, ne_eqb _ _ e.if-weights-needed.true, c.other_weights.ensures)
 
 pub overflow_mul-s : goal.overflow_mul-s
 overflow_mul-s c =
-    let z = sized c in
+    let z = sized c.before.before.before.before.before.before.before in
     omega (arith, product_small _ _ 1024 131072 z.batch_in z.in_in)
 
 pub returns-then-readings-s : goal.returns-then-readings-s
 unfolding cpu_refusal given
 returns-then-readings-s c =
-    let e = c in
-    let d = e in
-    let a = d in
+    let e = c.before.before in
+    let d = e.before.before.before.before in
+    let a = d.before.before in
     let size = e.block_bytes-size.ensures in
     simp (sym size, sym a.is_oversize.ensures, a.if-is_oversize.false, eq-eqb _ _ d.if-s-ne0.false, eq-eqb _ _ e.if-weights-needed.false, ne_eqb _ _ c.if-readings-s.true)
 
 pub overflow_mul-s-2 : goal.overflow_mul-s-2
 overflow_mul-s-2 c =
-    let z = sized c in
+    let z = sized c.before.before.before.before.before.before.before.before.before in
     omega (arith, product_small _ _ 1024 65536 z.batch_in z.out_in)
 
 pub returns-then-places-s : goal.returns-then-places-s
 unfolding cpu_refusal given
 returns-then-places-s c =
-    let g = c in
-    let e = g in
-    let d = e in
-    let a = d in
+    let g = c.before.before in
+    let e = g.before.before in
+    let d = e.before.before.before.before in
+    let a = d.before.before in
     let size = e.block_bytes-size.ensures in
     simp (sym size, sym a.is_oversize.ensures, a.if-is_oversize.false, eq-eqb _ _ d.if-s-ne0.false, eq-eqb _ _ e.if-weights-needed.false, eq-eqb _ _ g.if-readings-s.false, ne_eqb _ _ c.if-places-s.true)
 
 pub returns-then-scratch-s : goal.returns-then-scratch-s
 unfolding cpu_refusal given
 returns-then-scratch-s c =
-    let i = c in
-    let g = i in
-    let e = g in
-    let d = e in
-    let a = d in
+    let i = c.before.before in
+    let g = i.before.before in
+    let e = g.before.before in
+    let d = e.before.before.before.before in
+    let a = d.before.before in
     let size = e.block_bytes-size.ensures in
     simp (sym size, sym a.is_oversize.ensures, a.if-is_oversize.false, eq-eqb _ _ d.if-s-ne0.false, eq-eqb _ _ e.if-weights-needed.false, eq-eqb _ _ g.if-readings-s.false, eq-eqb _ _ i.if-places-s.false, lt-ltb _ _ c.if-scratch-s.true)
 
 pub returns : goal.returns
 unfolding cpu_refusal given
 returns c =
-    let i = c in
-    let g = i in
-    let e = g in
-    let d = e in
-    let a = d in
+    let i = c.before.before in
+    let g = i.before.before in
+    let e = g.before.before in
+    let d = e.before.before.before.before in
+    let a = d.before.before in
     let size = e.block_bytes-size.ensures in
     simp (sym size, sym a.is_oversize.ensures, a.if-is_oversize.false, eq-eqb _ _ d.if-s-ne0.false, eq-eqb _ _ e.if-weights-needed.false, eq-eqb _ _ g.if-readings-s.false, eq-eqb _ _ i.if-places-s.false, le-ltb _ _ c.if-scratch-s.false)

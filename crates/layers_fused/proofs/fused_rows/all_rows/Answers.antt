@@ -30,7 +30,7 @@ facts : (c : goal.In-loop-b)
     × (b * s.in_feat + s.in_feat ≤ length a.x.now)
     × (b * s.out_feat + s.out_feat ≤ length a.y.now))
 facts c =
-    let t = c in
+    let t = c.before.before.before.before.before in
     let a = t.args in
     let s = a.s in
     let b = c.loop-b.b in
@@ -62,16 +62,16 @@ pub slice_bounds-one_row-end : goal.slice_bounds-one_row-end
 slice_bounds-one_row-end c = omega (arith, (facts c).1, (facts c).2)
 
 pub offset_bounds-y-at : goal.offset_bounds-y-at
-offset_bounds-y-at c = omega (arith, (facts c).1, (facts c).2)
+offset_bounds-y-at c = omega (arith, (facts c.before).1, (facts c.before).2)
 
 pub slice_bounds-one_row-count-in-loop-b : goal.slice_bounds-one_row-count-in-loop-b
-slice_bounds-one_row-count-in-loop-b c = omega (arith, (facts c).1, (facts c).2)
+slice_bounds-one_row-count-in-loop-b c = omega (arith, (facts c.before).1, (facts c.before).2)
 
 pub slice_bounds-one_row-start-in-loop-b : goal.slice_bounds-one_row-start-in-loop-b
-slice_bounds-one_row-start-in-loop-b c = omega (arith, (facts c).1, (facts c).2)
+slice_bounds-one_row-start-in-loop-b c = omega (arith, (facts c.before).1, (facts c.before).2)
 
 pub slice_bounds-one_row-end-in-loop-b : goal.slice_bounds-one_row-end-in-loop-b
-slice_bounds-one_row-end-in-loop-b c = omega (arith, (facts c).1, (facts c).2)
+slice_bounds-one_row-end-in-loop-b c = omega (arith, (facts c.before).1, (facts c.before).2)
 
 -- the rows that a turn lends have their lengths
 lengths : (c : goal.In-loop-b)
@@ -91,7 +91,7 @@ lengths c =
 
 pub one_row-row-requires : goal.one_row-row-requires
 one_row-row-requires c =
-    let d = c in
+    let d = c.before.before in
     let f = (facts d).0 in
     let n = lengths d in
     rw (n.0, n.1) (f.within.in_in, f.whole, f.within.out_in, f.weighed)
@@ -103,14 +103,14 @@ pub returns-in_default : goal.returns-in_default
 returns-in_default c = absurd (never_refused _ _ c.one_row-row.ensures.0 c.in_default.is)
 
 pub overflow_step-b : goal.overflow_step-b
-overflow_step-b c = let d = c in omega (arith, d.loop-b-test.true, (facts d).0.within.batch_in)
+overflow_step-b c = let d = c.before.before.before.before.before.before in omega (arith, d.loop-b-test.true, (facts d).0.within.batch_in)
 
 pub loop-b-smaller : goal.loop-b-smaller
 loop-b-smaller c = omega (arith, c.loop-b-test.true)
 
 pub loop-b-preserved : goal.loop-b-preserved
 loop-b-preserved c =
-    let d = c in
+    let d = c.before.before.before.before.before.before in
     let l = d.loop-b in
     let a = d.args in
     let n = a.s.in_feat in
@@ -137,7 +137,7 @@ pub returns : goal.returns
 unfolding fused_layer_says outputs
 returns c =
     let l = c.loop-b in
-    let t = c in
+    let t = c.before.before.before.before.before in
     let a = t.args in
     let outs = a.s.out_feat in
     let f : ℕ → Float = λ k. fused_dot_at a.format (part a.x.now (k / outs * a.s.in_feat) a.s.in_feat) a.w.now a.s.in_feat (k % outs) in

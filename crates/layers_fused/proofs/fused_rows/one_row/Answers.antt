@@ -27,7 +27,7 @@ facts : (c : goal.In-loop-o)
     (c.loop-o.o * size + size ≤ length a.w.now) × (size ≤ 107520) × (c.loop-o.o < 65536))
 facts c =
     let r = c.row_bytes-size in
-    let t = c in
+    let t = c.before.before.before.before.before.before in
     let n = length t.args.x.now in
     let small : r.result ≤ 107520 = rw r.ensures (row_small t.args.format n t.requires.0) in
     let room : length t.args.y.now * r.result ≤ length t.args.w.now = rw r.ensures t.requires.3 in
@@ -50,14 +50,14 @@ slice_bounds-fused_dot-end c = omega (arith, facts c)
 
 -- what the dot of row o answers
 said : (c : goal.After-fused_dot-answer)
-    → (let d = c in
+    → (let d = c.before.before in
     let a = d.args in
     said_by c.fused_dot-answer.result ≡ value (fused_dot_at a.format a.x.now a.w.now (length a.x.now) d.loop-o.o))
 said c =
-    let d = c in
+    let d = c.before.before in
     let o = d.loop-o.o in
     let r = d.row_bytes-size in
-    let t = d in
+    let t = d.before.before.before.before.before.before in
     let a = t.args in
     let n = length a.x.now in
     let size = r.result in
@@ -79,7 +79,7 @@ pub loop-o-preserved : goal.loop-o-preserved
 loop-o-preserved c =
     let m = c in
     let d = m in
-    let t = d in
+    let t = d.before.before.before.before.before.before in
     filling_more (fused_dot_at t.args.format t.args.x.now t.args.w.now (length t.args.x.now)) t.args.y.now (length t.args.y.now) d.loop-o.y d.loop-o.o _ refl d.loop-o.invariant d.loop-o-test.true
     (value_of _ _ _ (said m) c.in-Value.is)
 
@@ -88,5 +88,5 @@ shape_of-y c = c.loop-o.invariant.2
 
 pub returns : goal.returns
 returns c =
-    let t = c in
+    let t = c.before.before.before.before.before.before in
     (refl, filling_done (fused_dot_at t.args.format t.args.x.now t.args.w.now (length t.args.x.now)) t.args.y.now (length t.args.y.now) c.loop-o.y c.loop-o.o refl c.loop-o.invariant c.loop-o-test.false)

@@ -31,7 +31,7 @@ facts : (c : goal.In-loop-b)
     × (b * s.in_feat + s.in_feat ≤ length a.x.now)
     × (b * s.out_feat + s.out_feat ≤ length a.y.now))
 facts c =
-    let t = c in
+    let t = c.before.before.before.before.before.before.before in
     let a = t.args in
     let s = a.s in
     let b = c.loop-b.b in
@@ -70,43 +70,43 @@ long c =
 -- room for a row's blocks
 room : (c : goal.In-loop-b) → (let l = c.loop-b in KeptRoom (c.args.s.in_feat / 256) l.ds l.qs l.sums)
 room c =
-    let t = c in
+    let t = c.before.before.before.before.before.before.before in
     let l = c.loop-b in
     room_same _ t.args.ds.now l.ds t.args.qs.now l.qs t.args.sums.now l.sums l.invariant.3 l.invariant.4 l.invariant.5 t.requires.2
 
 pub keep_row-requires : goal.keep_row-requires
 keep_row-requires c =
-    let d = c in
+    let d = c.before.before.before.before in
     let l = d.loop-b in
     (le_trans (le_of_eq (long d)) (facts d).0.within.in_in, subst (λ (z : ℕ). KeptRoom (z / 256) l.ds l.qs l.sums) (sym (long d)) (room d))
 
 pub overflow_mul-at : goal.overflow_mul-at
-overflow_mul-at c = let d = c in omega (arith, (facts d).2)
+overflow_mul-at c = let d = c.before.before.before.before.before.before.before.before.before in omega (arith, (facts d).2)
 
 pub overflow_add-end : goal.overflow_add-end
-overflow_add-end c = let d = c in omega (arith, (facts d).2)
+overflow_add-end c = let d = c.before.before.before.before.before.before.before.before.before in omega (arith, (facts d).2)
 
 pub offset_bounds-y-at : goal.offset_bounds-y-at
-offset_bounds-y-at c = let d = c in omega (arith, (facts d).2, d.loop-b.invariant.2)
+offset_bounds-y-at c = let d = c.before.before.before.before.before.before.before.before.before.before.before.before.before in omega (arith, (facts d).2, d.loop-b.invariant.2)
 
 pub slice_bounds-one_row-count : goal.slice_bounds-one_row-count
-slice_bounds-one_row-count c = let d = c in omega (arith, (facts d).2, d.loop-b.invariant.2)
+slice_bounds-one_row-count c = let d = c.before.before.before.before.before.before.before.before.before.before.before.before.before in omega (arith, (facts d).2, d.loop-b.invariant.2)
 
 pub slice_bounds-one_row-start : goal.slice_bounds-one_row-start
-slice_bounds-one_row-start c = let d = c in omega (arith, (facts d).2, d.loop-b.invariant.2)
+slice_bounds-one_row-start c = let d = c.before.before.before.before.before.before.before.before.before.before.before.before.before in omega (arith, (facts d).2, d.loop-b.invariant.2)
 
 pub slice_bounds-one_row-end : goal.slice_bounds-one_row-end
-slice_bounds-one_row-end c = let d = c in omega (arith, (facts d).2, d.loop-b.invariant.2)
+slice_bounds-one_row-end c = let d = c.before.before.before.before.before.before.before.before.before.before.before.before.before in omega (arith, (facts d).2, d.loop-b.invariant.2)
 
 -- row b is kept
 keeps : (c : goal.After-keep_row)
-    → (let d = c in
+    → (let d = c.before.before.before.before.before in
     let a = d.args in
     let n = a.s.in_feat in
     let h = c.keep_row.new in
     Keeps (part a.x.now (d.loop-b.b * n) n) (n / 256) h.ds h.qs h.sums × KeptRoom (n / 256) h.ds h.qs h.sums)
 keeps c =
-    let d = c in
+    let d = c.before.before.before.before.before in
     let a = d.args in
     let n = a.s.in_feat in
     let l = d.loop-b in
@@ -127,7 +127,7 @@ places : (c : goal.In-loop-b)
     let at = l.b * a.s.out_feat in
     (length l.dots ≡ a.s.in_feat / 256) × (length (take (at + a.s.out_feat - at) (drop at l.y)) ≡ a.s.out_feat))
 places c =
-    let t = c in
+    let t = c.before.before.before.before.before.before.before in
     let outs = t.args.s.out_feat in
     let l = c.loop-b in
     let at = l.b * outs in
@@ -136,8 +136,8 @@ places c =
 
 pub one_row-requires : goal.one_row-requires
 one_row-requires c =
-    let k = c in
-    let d = k in
+    let k = c.before.before.before.before.before.before.before.before.before in
+    let d = k.before.before.before.before.before in
     let f = (facts d).0 in
     let p = places d in
     let h = k.keep_row.new in
@@ -145,16 +145,16 @@ one_row-requires c =
     rw (p.0, p.1) (omega (arith, f.within.in_in), f.within.out_in, f.weighed, kept_by _ _ h.ds h.qs h.sums row.1 row.0)
 
 pub overflow_step-b : goal.overflow_step-b
-overflow_step-b c = let d = c in omega (arith, d.loop-b-test.true, (facts d).0.within.batch_in)
+overflow_step-b c = let d = c.before.before.before.before.before.before.before.before.before.before.before.before.before.before.before.before.before.before.before in omega (arith, d.loop-b-test.true, (facts d).0.within.batch_in)
 
 pub loop-b-smaller : goal.loop-b-smaller
 loop-b-smaller c = omega (arith, c.loop-b-test.true)
 
 pub loop-b-preserved : goal.loop-b-preserved
 loop-b-preserved c =
-    let q = c in
-    let k = q in
-    let d = k in
+    let q = c.before.before.before.before in
+    let k = q.before.before.before.before.before.before.before.before.before.before in
+    let d = k.before.before.before.before.before in
     let a = d.args in
     let l = d.loop-b in
     let n = a.s.in_feat in

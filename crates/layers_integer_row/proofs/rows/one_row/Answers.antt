@@ -19,18 +19,18 @@ use Rattle.layers_integer_row.proofs.rows.one_row.Goals as goal
 -- a row's bytes are few
 small : (c : goal.After-block_bytes) → length c.args.dots.now * c.block_bytes.result ≤ 107520
 small c =
-    let s = c in
+    let s = c.before.before.before.before.before in
     product_small _ _ 512 210 s.requires.0 (rw c.block_bytes.ensures (sizes (OfK s.args.format)).1)
 
 -- row o lies within the weights
 facts : (c : goal.In-loop-o)
-    → (let k = c in
+    → (let k = c.before.before in
     let a = k.args in
     let size = length a.dots.now * k.block_bytes.result in
     (c.loop-o.o * size + size ≤ length a.w.now) × (size ≤ 107520) × (c.loop-o.o < 65536))
 facts c =
-    let k = c in
-    let s = k in
+    let k = c.before.before in
+    let s = k.before.before.before.before.before in
     let size = length s.args.dots.now * k.block_bytes.result in
     let room : length s.args.y.now * size ≤ length s.args.w.now = rw k.block_bytes.ensures s.requires.2 in
     (within c.loop-o.o size (length s.args.y.now) (length s.args.w.now) c.loop-o-test.true room, small k, omega (arith, c.loop-o-test.true, s.requires.1))
@@ -58,9 +58,9 @@ slice_bounds-kept_row_dot-end c = omega (arith, facts c)
 
 pub kept_row_dot-requires : goal.kept_row_dot-requires
 kept_row_dot-requires c =
-    let d = c in
-    let k = d in
-    let s = k in
+    let d = c.before.before in
+    let k = d.before.before in
+    let s = k.before.before.before.before.before in
     let l = d.loop-o in
     let size = length s.args.dots.now * k.block_bytes.result in
     let e = l.invariant.0 in
@@ -70,9 +70,9 @@ kept_row_dot-requires c =
 
 pub loop-o-preserved : goal.loop-o-preserved
 loop-o-preserved c =
-    let q = c in
-    let d = q in
-    let k = d in
+    let q = c.before.before in
+    let d = q.before.before.before in
+    let k = d.before.before in
     let a = k.args in
     let l = d.loop-o in
     let n = length a.dots.now in

@@ -11,16 +11,16 @@ use Rattle.layers_integer_row.proofs.rows.rows_of_16.Goals as goal
 
 -- a row's blocks are at most 16
 few : (c : goal.After-struct_known-1) → c.args.s.in_feat / 256 ≤ 16
-few c = let t = c in omega (arith, t.requires.1)
+few c = let t = c.before.before.before.before in omega (arith, t.requires.1)
 
 pub slice_bounds-dots-end : goal.slice_bounds-dots-end
-slice_bounds-dots-end c = few c
+slice_bounds-dots-end c = few c.before.before.before
 
 pub slice_bounds-all_rows-end-4 : goal.slice_bounds-all_rows-end-4
-slice_bounds-all_rows-end-4 c = sym (length-take-le (c.args.s.in_feat / 256) (replicate 16 nought) (rw length-replicate (few c)))
+slice_bounds-all_rows-end-4 c = sym (length-take-le (c.args.s.in_feat / 256) (replicate 16 nought) (rw length-replicate (few c.before.before.before.before)))
 
 pub all_rows-requires : goal.all_rows-requires
 all_rows-requires c =
-    let t = c in
+    let t = c.before.before.before.before.before.before.before.before.before in
     let blocks = t.args.s.in_feat / 256 in
-    (t.requires.0, length-take-le blocks (replicate 16 nought) (rw length-replicate (few c)), room_new blocks 16 nought (pos 0) (pos 0) (few c))
+    (t.requires.0, length-take-le blocks (replicate 16 nought) (rw length-replicate (few c.before.before.before.before.before)), room_new blocks 16 nought (pos 0) (pos 0) (few c.before.before.before.before.before))

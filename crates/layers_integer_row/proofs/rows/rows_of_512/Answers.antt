@@ -12,16 +12,16 @@ use Rattle.layers_integer_row.proofs.rows.rows_of_512.Goals as goal
 
 -- a row's blocks are at most 512
 few : (c : goal.After-struct_known-1) → c.args.s.in_feat / 256 ≤ 512
-few c = let t = c in omega (arith, (fits _ _ _ _ _ t.requires).within.in_in)
+few c = let t = c.before.before.before.before in omega (arith, (fits _ _ _ _ _ t.requires).within.in_in)
 
 pub slice_bounds-dots-end : goal.slice_bounds-dots-end
-slice_bounds-dots-end c = few c
+slice_bounds-dots-end c = few c.before.before.before
 
 pub slice_bounds-all_rows-end-4 : goal.slice_bounds-all_rows-end-4
-slice_bounds-all_rows-end-4 c = sym (length-take-le (c.args.s.in_feat / 256) (replicate 512 nought) (rw length-replicate (few c)))
+slice_bounds-all_rows-end-4 c = sym (length-take-le (c.args.s.in_feat / 256) (replicate 512 nought) (rw length-replicate (few c.before.before.before.before)))
 
 pub all_rows-requires : goal.all_rows-requires
 all_rows-requires c =
-    let t = c in
+    let t = c.before.before.before.before.before.before.before.before.before in
     let blocks = t.args.s.in_feat / 256 in
-    (t.requires, length-take-le blocks (replicate 512 nought) (rw length-replicate (few c)), room_new blocks 512 nought (pos 0) (pos 0) (few c))
+    (t.requires, length-take-le blocks (replicate 512 nought) (rw length-replicate (few c.before.before.before.before.before)), room_new blocks 512 nought (pos 0) (pos 0) (few c.before.before.before.before.before))

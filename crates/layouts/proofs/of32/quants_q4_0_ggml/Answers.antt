@@ -19,7 +19,7 @@ less-requires-in-loop-k c = omega (arith, c.shared_slice_known-in-loop-k-1.given
 
 pub loop-k-preserved : goal.loop-k-preserved
 loop-k-preserved c =
-    let m = c in
+    let m = c.before.before.before.before in
     let bs = m.args.block.now in
     let k = m.loop-k.k in
     let h : k < 16 = omega (arith, c.loop-k-test.true) in

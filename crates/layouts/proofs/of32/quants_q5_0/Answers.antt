@@ -20,7 +20,7 @@ with_high_bit-requires-in-loop-k c = omega (arith, c.shared_slice_known-in-loop-
 
 pub loop-k-preserved : goal.loop-k-preserved
 loop-k-preserved c =
-    let m = c in
+    let m = c.before.before.before.before in
     let bs = m.args.block.now in
     let k = m.loop-k.k in
     let h : k < 16 = c.loop-k-test.true in

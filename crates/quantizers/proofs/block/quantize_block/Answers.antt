@@ -67,65 +67,65 @@ pub bounds-out-1 : goal.bounds-out-1
 bounds-out-1 c = rw length-set (omega (arith, (start c).requires.1, least_32 (format_of (start c).args.target)))
 
 pub slice_bounds-write_quants_q4_0-end : goal.slice_bounds-write_quants_q4_0-end
-slice_bounds-write_quants_q4_0-end c = omega (arith, told_long c Q40 c.in-Q40.is)
+slice_bounds-write_quants_q4_0-end c = omega (arith, told_long c.before Q40 c.in-Q40.is)
 
 pub write_quants_q4_0-requires : goal.write_quants_q4_0-requires
 write_quants_q4_0-requires c =
-    let m = c in
+    let m = c.before.before in
     ((start m).requires.0, part_length (scaled m) 2 16 18 refl (omega (arith, told_long m Q40 c.in-Q40.is)))
 
 pub slice_bounds-write_quants_q4_0_ggml-end : goal.slice_bounds-write_quants_q4_0_ggml-end
-slice_bounds-write_quants_q4_0_ggml-end c = omega (arith, told_long c Q40Ggml c.in-Q40Ggml.is)
+slice_bounds-write_quants_q4_0_ggml-end c = omega (arith, told_long c.before Q40Ggml c.in-Q40Ggml.is)
 
 pub write_quants_q4_0_ggml-requires : goal.write_quants_q4_0_ggml-requires
 write_quants_q4_0_ggml-requires c =
-    let m = c in
+    let m = c.before.before in
     ((start m).requires.0, part_length (scaled m) 2 16 18 refl (omega (arith, told_long m Q40Ggml c.in-Q40Ggml.is)))
 
 pub slice_bounds-write_quants_q8_0-end : goal.slice_bounds-write_quants_q8_0-end
-slice_bounds-write_quants_q8_0-end c = omega (arith, told_long c Q80 c.in-Q80.is)
+slice_bounds-write_quants_q8_0-end c = omega (arith, told_long c.before Q80 c.in-Q80.is)
 
 pub write_quants_q8_0-requires : goal.write_quants_q8_0-requires
 write_quants_q8_0-requires c =
-    let m = c in
+    let m = c.before.before in
     ((start m).requires.0, part_length (scaled m) 2 32 34 refl (omega (arith, told_long m Q80 c.in-Q80.is)))
 
 pub slice_bounds-write_quants_iq4_nl-end : goal.slice_bounds-write_quants_iq4_nl-end
-slice_bounds-write_quants_iq4_nl-end c = omega (arith, told_long c (Iq4Nl _) c.in-Iq4Nl.is)
+slice_bounds-write_quants_iq4_nl-end c = omega (arith, told_long c.before (Iq4Nl _) c.in-Iq4Nl.is)
 
 pub write_quants_iq4_nl-requires : goal.write_quants_iq4_nl-requires
 write_quants_iq4_nl-requires c =
-    let m = c in
+    let m = c.before.before in
     ((start m).requires.0, part_length (scaled m) 2 16 18 refl (omega (arith, told_long m (Iq4Nl _) c.in-Iq4Nl.is)))
 
 pub shape_of-out-in-Q40 : goal.shape_of-out-in-Q40
-shape_of-out-in-Q40 c = kept_long c Q40 18 16 _ c.in-Q40.is refl refl c.write_quants_q4_0.ensures
+shape_of-out-in-Q40 c = kept_long c.before.before.before.before.before Q40 18 16 _ c.in-Q40.is refl refl c.write_quants_q4_0.ensures
 
 pub returns-in-Q40 : goal.returns-in-Q40
 returns-in-Q40 c =
-    let m = c in
+    let m = c.before.before.before.before.before in
     (fares m, behind m Q40 18 16 _ c.in-Q40.is refl refl c.write_quants_q4_0.ensures)
 
 pub shape_of-out-in-Q40Ggml : goal.shape_of-out-in-Q40Ggml
-shape_of-out-in-Q40Ggml c = kept_long c Q40Ggml 18 16 _ c.in-Q40Ggml.is refl refl c.write_quants_q4_0_ggml.ensures
+shape_of-out-in-Q40Ggml c = kept_long c.before.before.before.before.before Q40Ggml 18 16 _ c.in-Q40Ggml.is refl refl c.write_quants_q4_0_ggml.ensures
 
 pub returns-in-Q40Ggml : goal.returns-in-Q40Ggml
 returns-in-Q40Ggml c =
-    let m = c in
+    let m = c.before.before.before.before.before in
     (fares m, behind m Q40Ggml 18 16 _ c.in-Q40Ggml.is refl refl c.write_quants_q4_0_ggml.ensures)
 
 pub shape_of-out-in-Q80 : goal.shape_of-out-in-Q80
-shape_of-out-in-Q80 c = kept_long c Q80 34 32 _ c.in-Q80.is refl refl c.write_quants_q8_0.ensures
+shape_of-out-in-Q80 c = kept_long c.before.before.before.before.before Q80 34 32 _ c.in-Q80.is refl refl c.write_quants_q8_0.ensures
 
 pub returns-in-Q80 : goal.returns-in-Q80
 returns-in-Q80 c =
-    let m = c in
+    let m = c.before.before.before.before.before in
     (fares m, behind m Q80 34 32 _ c.in-Q80.is refl refl c.write_quants_q8_0.ensures)
 
 pub shape_of-out-in-Iq4Nl : goal.shape_of-out-in-Iq4Nl
-shape_of-out-in-Iq4Nl c = kept_long c (Iq4Nl _) 18 16 _ c.in-Iq4Nl.is refl refl c.write_quants_iq4_nl.ensures
+shape_of-out-in-Iq4Nl c = kept_long c.before.before.before.before.before (Iq4Nl _) 18 16 _ c.in-Iq4Nl.is refl refl c.write_quants_iq4_nl.ensures
 
 pub returns-in-Iq4Nl : goal.returns-in-Iq4Nl
 returns-in-Iq4Nl c =
-    let m = c in
+    let m = c.before.before.before.before.before in
     (fares m, behind m (Iq4Nl _) 18 16 _ c.in-Iq4Nl.is refl refl c.write_quants_iq4_nl.ensures)

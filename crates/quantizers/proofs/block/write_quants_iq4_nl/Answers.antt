@@ -31,19 +31,19 @@ pub nibbles_iq4_nl-n-requires : goal.nibbles_iq4_nl-n-requires
 nibbles_iq4_nl-n-requires c = c.requires.0
 
 pub loop-k-init : goal.loop-k-init
-loop-k-init c = let t = c in filling_start (bytes t.args.x.now t.args.inverse) t.args.out.now 16 t.requires.1
+loop-k-init c = let t = c.before.before.before in filling_start (bytes t.args.x.now t.args.inverse) t.args.out.now 16 t.requires.1
 
 pub overflow_mul-out : goal.overflow_mul-out
-overflow_mul-out c = omega (arith, nibble_small c (c.loop-k.k + 16) (omega arith))
+overflow_mul-out c = omega (arith, nibble_small c.before.before (c.loop-k.k + 16) (omega arith))
 
 pub overflow_add-out-in-loop-k : goal.overflow_add-out-in-loop-k
-overflow_add-out-in-loop-k c = let k = c.loop-k.k in omega (arith, nibble_small c k (omega arith), nibble_small c (k + 16) (omega arith))
+overflow_add-out-in-loop-k c = let k = c.loop-k.k in omega (arith, nibble_small c.before.before k (omega arith), nibble_small c.before.before (k + 16) (omega arith))
 
 pub loop-k-preserved : goal.loop-k-preserved
 loop-k-preserved c =
     let l = c.loop-k in
-    let m = c in
-    let t = m in
+    let m = c.before.before in
+    let t = m.before.before.before in
     filling_more (bytes t.args.x.now t.args.inverse) t.args.out.now 16 l.out l.k _ t.requires.1 l.invariant c.loop-k-test.true (rw (nibble_is m l.k (omega arith), nibble_is m (l.k + 16) (omega arith)))
 
 pub shape_of-out : goal.shape_of-out
@@ -52,5 +52,5 @@ shape_of-out c = c.loop-k.invariant.2 ∙ sym c.requires.1
 pub returns : goal.returns
 returns c =
     let l = c.loop-k in
-    let t = c in
+    let t = c.before.before.before.before.before in
     filling_done (bytes t.args.x.now t.args.inverse) t.args.out.now 16 l.out l.k t.requires.1 l.invariant c.loop-k-test.false

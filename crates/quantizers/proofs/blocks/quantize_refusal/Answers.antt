@@ -24,13 +24,13 @@ size_is c = c.block_bytes.ensures ∙ ap bytes32 c.format_of.ensures
 
 pub overflow_mul-n : goal.overflow_mul-n
 overflow_mul-n c =
-    let t = c in
+    let t = c.before.before.before.before in
     record { fits = few t.args.n 32 c.block_bytes.result (omega (arith, c.if-n-gt-MOST_FLOATS.false)) (omega (arith, least_32 (format_of t.args.target), size_is c)) }
 
 pub returns-then-room-n : goal.returns-then-room-n
 unfolding quantize_refusal given
-returns-then-room-n c = simp (le-ltb _ _ c.if-n-gt-MOST_FLOATS.false, eq-eqb _ _ c.if-n-ne0.false, lt-ltb _ _ (rw (size_is c) at c.if-room-n.true))
+returns-then-room-n c = simp (le-ltb _ _ c.if-n-gt-MOST_FLOATS.false, eq-eqb _ _ c.if-n-ne0.false, lt-ltb _ _ (rw (size_is c.before) at c.if-room-n.true))
 
 pub returns : goal.returns
 unfolding quantize_refusal given
-returns c = simp (le-ltb _ _ c.if-n-gt-MOST_FLOATS.false, eq-eqb _ _ c.if-n-ne0.false, le-ltb _ _ (rw (size_is c) at c.if-room-n.false))
+returns c = simp (le-ltb _ _ c.if-n-gt-MOST_FLOATS.false, eq-eqb _ _ c.if-n-ne0.false, le-ltb _ _ (rw (size_is c.before) at c.if-room-n.false))

@@ -16,7 +16,7 @@ loop-j-init c = let l = c.loop-i in (omega arith, rw add-zero l.invariant.2, rw 
 
 pub loop-j-preserved : goal.loop-j-preserved
 loop-j-preserved c =
-    let head = c in
+    let head = c.before.before.before.before in
     let x = head.args.x.now in
     let i = head.loop-i.i in
     let j = head.loop-j.j in
@@ -35,7 +35,7 @@ loop-i-preserved c =
 
 pub returns : goal.returns
 returns c =
-    let head = c in
+    let head = c.before.before.before.before.before.before.before in
     let x = head.args.x.now in
     let all : head.loop-i.i ≡ length x / 8 * 8 = omega arith in
     let known = head.shared_slice_known-1.given in

@@ -20,7 +20,7 @@ loop-i-init c = (omega arith, below_none _)
 pub returns-then-reaches : goal.returns-then-reaches
 returns-then-reaches c =
     let l = c.loop-i in
-    let start = c in
+    let start = c.before.before.before.before.before.before in
     let xs = start.args.x.now in
     let most = start.requires in
     let given = c.shared_slice_known-in-loop-i-1.given in
@@ -34,7 +34,7 @@ loop-i-preserved c = (omega arith, below_more _ _ c.loop-i.invariant.1 (sym c.re
 pub returns : goal.returns
 returns c =
     let l = c.loop-i in
-    let start = c in
+    let start = c.before.before.before in
     let xs = start.args.x.now in
     let most = start.requires in
     sym (nothing_found xs (length xs) (λ j h. c.shared_slice_known-1.given j) (λ j h. rw most at (l.invariant.1 j (omega arith))))

@@ -34,20 +34,20 @@ module _ (c : goal.After-ends_of-e) where
 
 pub returns-then-high-low : goal.returns-then-high-low
 returns-then-high-low c =
-    let e = c in
+    let e = c.before in
     e.ends_of-e.ensures.0 ∙ sym (further_end (xs e) (fit e) false (ltb-true _ _ (sym (up_further e) ∙ c.if-high-low.true)))
 
 pub returns-then-high-low-2 : goal.returns-then-high-low-2
 returns-then-high-low-2 c =
-    let e = c in
+    let e = c.before.before in
     e.ends_of-e.ensures.1 ∙ sym (further_end (xs e) (fit e) true (ltb-true _ _ (sym (down_further e) ∙ c.if-high-low-2.true)))
 
 pub first_of-requires : goal.first_of-requires
 first_of-requires c =
-    let e = c in
+    let e = c.before.before.before in
     e.ends_of-e.ensures.0 ∙ same_ends (xs e) (fit e) (as_far e c.if-high-low.false c.if-high-low-2.false)
 
 pub returns : goal.returns
 returns c =
-    let e = c in
+    let e = c.before.before.before in
     sym (no_ends (xs e) (fit e) (as_far e c.if-high-low.false c.if-high-low-2.false) (le_antisymm (ltb-false _ _ (sym (some_end e) ∙ c.if-high.false)) zero-le))

@@ -20,7 +20,7 @@ number n h = of_value (round binary32 false n 1) n 1 (lit< tt) (round_whole bina
 
 within : (c : goal.After-smaller_of) → Held c.args.most c.args.t c.smaller_of.result
 within c =
-    let start = c in
+    let start = c.before.before.before in
     let n = start.args.most in
     let h = start.ranges.most.fits in
     rw (c.smaller_of.ensures, c.larger_of.ensures) (held_is n start.requires h (of_int binary32 (pos n)) (number n h) start.args.t)
@@ -29,4 +29,4 @@ pub small_whole-requires : goal.small_whole-requires
 small_whole-requires c = ((within c).from_zero, (within c).below)
 
 pub returns : goal.returns
-returns c = read_is w32 _ c.small_whole.type_inv ∙ c.small_whole.ensures ∙ (within c).is
+returns c = read_is w32 _ c.small_whole.type_inv ∙ c.small_whole.ensures ∙ (within c.before).is

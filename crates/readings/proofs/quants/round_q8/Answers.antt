@@ -70,7 +70,7 @@ module _ {z : ℤ} (q : UpTo 127 z) where
   read_negated = to_z-of_z w32 _ negated_fits ∙ negated
 
 pub overflow_sub-signed : goal.overflow_sub-signed
-overflow_sub-signed c = negated_fits (quant c)
+overflow_sub-signed c = negated_fits (quant c.before)
 
 -- where the ways meet, the number is the quant, and a byte holds it
 record Quant (p : Float) (bits : ℕ) : Type 0 where
@@ -79,10 +79,10 @@ record Quant (p : Float) (bits : ℕ) : Type 0 where
 
 met : (c : goal.Joined-p) → Quant c.args.p c.if-p.signed-bits
 met c =
-    let q = quant c in
+    let q = quant c.before in
     ⊎_elim
-    (λ w. let v = turned_is c w.0.taken in record { is = rw (w.1, v) (read_negated q); byte = rw v (small_negated q) })
-    (λ w. let v = straight_is c w.0.left in record { is = rw (w.1, v) (read q); byte = rw v (small q) })
+    (λ w. let v = turned_is c.before w.0.taken in record { is = rw (w.1, v) (read_negated q); byte = rw v (small_negated q) })
+    (λ w. let v = straight_is c.before w.0.left in record { is = rw (w.1, v) (read q); byte = rw v (small q) })
     c.if-p.branch
 
 pub overflow_cast-result : goal.overflow_cast-result

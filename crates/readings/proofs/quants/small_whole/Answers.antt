@@ -48,13 +48,13 @@ one_or_none : (c : goal.Joined-c-near) → to_z w32 c.if-c-near.result-bits ≡ 
 unfolding of_bits
 one_or_none c = ⊎_elim (λ w. rw (w.1, w.0.taken)) (λ w. rw (w.1, w.0.left)) c.if-c-near.branch
 
-rest : (c : goal.Joined-c-near) → to_z w32 (of_z w32 (to_signed 31 (near c.args.c))) -ℤ to_z w32 c.if-c-near.result-bits ≡ pos (sized c).w
-rest c = left_over (sized c) (one_or_none c)
+rest : (c : goal.Joined-c-near) → to_z w32 (of_z w32 (to_signed 31 (near c.args.c))) -ℤ to_z w32 c.if-c-near.result-bits ≡ pos (sized c.before).w
+rest c = left_over (sized c.before) (one_or_none c)
 
 pub overflow_sub-result : goal.overflow_sub-result
 unfolding of_bits
-overflow_sub-result c = rw (rest c) (record { sfits = omega (arith, (sized c).under) })
+overflow_sub-result c = rw (rest c) (record { sfits = omega (arith, (sized c.before).under) })
 
 pub returns : goal.returns
 unfolding of_bits
-returns c = rw (rest c) (read_is w32 _ (omega (arith, (sized c).under)) ∙ sym (sized c).is)
+returns c = rw (rest c) (read_is w32 _ (omega (arith, (sized c.before).under)) ∙ sym (sized c.before).is)

@@ -32,7 +32,7 @@ to_format n c e =
     given_no _ _ _ (le-ltb _ _ c.if-p-lt-HEAD.false) ∙ ap (λ (k : Named). format_found k p) (sym c.format_named.ensures ∙ e)
 
 pub returns-in_default : goal.returns-in_default
-returns-in_default c = sym (to_format _ c c.in_default.is)
+returns-in_default c = sym (to_format _ c.before c.in_default.is)
 
 -- ---- the sizes
 -- the sizes that the code read are those of the payload
@@ -44,7 +44,7 @@ sizes c = c.sizes_refusal.ensures ∙ same_sizes _ _ _ _ c.u32_at-in_feat.ensure
 
 pub returns-in-Refused : goal.returns-in-Refused
 returns-in-Refused c =
-    let z = c in
+    let z = c.before in
     let k = z in
     sym (to_format _ k k.in-Known.is ∙ else_first _ _ _ (sym (sizes z) ∙ ap check_says c.in-Refused.is))
 
@@ -62,7 +62,7 @@ to_weights : (c : goal.In_default-sizes_refusal)
     ≡ given (no 11) (not (eqb (length p) (9 + weight_bytes k.in-Known.known (in_feat_in p) (out_feat_in p))))
     (value (layer (format_in p) (in_feat_in p) (out_feat_in p))))
 to_weights c =
-    let z = c in
+    let z = c.before in
     let k = z in
     to_format _ k k.in-Known.is ∙ else_later _ _ (sym (sizes z) ∙ ap check_says c.in_default-sizes_refusal.is)
 
@@ -83,16 +83,16 @@ same_layer format n m in_feat out_feat e f = rw (e, f)
 
 pub returns-then-p-weight_bytes : goal.returns-then-p-weight_bytes
 returns-then-p-weight_bytes c =
-    let w = c in
-    let u = w in
+    let w = c.before in
+    let u = w.before.before.before in
     let k = u in
-    sym (to_weights w ∙ given_yes _ _ _ (unlike k.in-Known.known _ _ _ _ _ _ k.if-p-lt-HEAD.false w.weight_bytes.ensures u.u32_at-in_feat.ensures.0 u.u32_at-out_feat.ensures.0 c.if-p-weight_bytes.true))
+    sym (to_weights w.before ∙ given_yes _ _ _ (unlike k.in-Known.known _ _ _ _ _ _ k.if-p-lt-HEAD.false w.weight_bytes.ensures u.u32_at-in_feat.ensures.0 u.u32_at-out_feat.ensures.0 c.if-p-weight_bytes.true))
 
 pub returns : goal.returns
 returns c =
-    let w = c in
-    let u = w in
+    let w = c.before in
+    let u = w.before.before.before in
     let k = u in
     let i = u.u32_at-in_feat.ensures.0 in
     let o = u.u32_at-out_feat.ensures.0 in
-    same_layer _ _ _ _ _ i o ∙ sym (to_weights w ∙ given_no _ _ _ (alike k.in-Known.known _ _ _ _ _ _ k.if-p-lt-HEAD.false w.weight_bytes.ensures i o c.if-p-weight_bytes.false))
+    same_layer _ _ _ _ _ i o ∙ sym (to_weights w.before ∙ given_no _ _ _ (alike k.in-Known.known _ _ _ _ _ _ k.if-p-lt-HEAD.false w.weight_bytes.ensures i o c.if-p-weight_bytes.false))

@@ -20,11 +20,11 @@ inputs c = among 2048 _ c.if-in_feat-lt1.false c.if-in_feat-gt-MOST_LAYER_IN.fal
 
 pub returns-then-out_feat-lt1 : goal.returns-then-out_feat-lt1
 unfolding sizes_refusal
-returns-then-out_feat-lt1 c = sym (given_no _ _ _ (inputs c) ∙ given_yes _ _ _ (below 16 _ c.if-out_feat-lt1.true))
+returns-then-out_feat-lt1 c = sym (given_no _ _ _ (inputs c.before) ∙ given_yes _ _ _ (below 16 _ c.if-out_feat-lt1.true))
 
 pub returns-then-out_feat-gt-MOST_LAYER_OUT : goal.returns-then-out_feat-gt-MOST_LAYER_OUT
 unfolding sizes_refusal
-returns-then-out_feat-gt-MOST_LAYER_OUT c = sym (given_no _ _ _ (inputs c) ∙ given_yes _ _ _ (above 16 _ c.if-out_feat-gt-MOST_LAYER_OUT.true))
+returns-then-out_feat-gt-MOST_LAYER_OUT c = sym (given_no _ _ _ (inputs c.before.before) ∙ given_yes _ _ _ (above 16 _ c.if-out_feat-gt-MOST_LAYER_OUT.true))
 
 outputs : (c : goal.Else-out_feat-gt-MOST_LAYER_OUT) → not (up_to 16 c.args.out-feat) ≡ false
 outputs c = among 16 _ c.if-out_feat-lt1.false c.if-out_feat-gt-MOST_LAYER_OUT.false
@@ -32,11 +32,11 @@ outputs c = among 16 _ c.if-out_feat-lt1.false c.if-out_feat-gt-MOST_LAYER_OUT.f
 pub returns-then-in_feat-ne0 : goal.returns-then-in_feat-ne0
 unfolding sizes_refusal
 returns-then-in_feat-ne0 c =
-    let o = c in
-    sym (given_no _ _ _ (inputs o) ∙ given_no _ _ _ (outputs o) ∙ given_yes _ _ _ (ap not (ne_eqb _ _ c.if-in_feat-ne0.true)))
+    let o = c.before in
+    sym (given_no _ _ _ (inputs o.before.before) ∙ given_no _ _ _ (outputs o) ∙ given_yes _ _ _ (ap not (ne_eqb _ _ c.if-in_feat-ne0.true)))
 
 pub returns : goal.returns
 unfolding sizes_refusal
 returns c =
-    let o = c in
-    sym (given_no _ _ _ (inputs o) ∙ given_no _ _ _ (outputs o) ∙ given_no _ _ _ (ap not (eq-eqb _ _ c.if-in_feat-ne0.false)))
+    let o = c.before in
+    sym (given_no _ _ _ (inputs o.before.before) ∙ given_no _ _ _ (outputs o) ∙ given_no _ _ _ (ap not (eq-eqb _ _ c.if-in_feat-ne0.false)))

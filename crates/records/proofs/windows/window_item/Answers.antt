@@ -28,24 +28,24 @@ pub returns-then-bytes-latest : goal.returns-then-bytes-latest
 unfolding window_found
 returns-then-bytes-latest c =
     let a = c.args in
-    let n = long c in
+    let n = long c.before in
     let other : length a.p.now ≡ a.latest * 4 → ⊥ = λ e. c.if-bytes-latest.true (omega arith) in
-    sym (given_no _ _ _ (latest c) ∙ given_yes _ _ _ (ap not (ne_eqb _ _ other)))
+    sym (given_no _ _ _ (latest c.before.before) ∙ given_yes _ _ _ (ap not (ne_eqb _ _ other)))
 
 pub returns-then-bytes-ne0 : goal.returns-then-bytes-ne0
 unfolding window_found
 returns-then-bytes-ne0 c =
     let a = c.args in
-    let n = long c in
+    let n = long c.before.before in
     let other : length a.p.now ≡ a.latest * 4 → ⊥ = λ e. c.if-bytes-ne0.true (omega arith) in
-    sym (given_no _ _ _ (latest c) ∙ given_yes _ _ _ (ap not (ne_eqb _ _ other)))
+    sym (given_no _ _ _ (latest c.before.before.before) ∙ given_yes _ _ _ (ap not (ne_eqb _ _ other)))
 
 -- the payload has its size
 size : (c : goal.Else-bytes-ne0) → let a = c.args in length a.p.now ≡ a.latest * 4
-size c = let n = long c in omega arith
+size c = let n = long c.before.before in omega arith
 
 pub has_zero-requires : goal.has_zero-requires
-has_zero-requires c = omega (arith, size c, long c)
+has_zero-requires c = omega (arith, size c, long c.before.before)
 
 -- what is left is whether one of the readings is a warm-up reading
 to_zeros : (b : Bool) (c : goal.After-has_zero) → c.has_zero.result ≡ b
@@ -53,15 +53,15 @@ to_zeros : (b : Bool) (c : goal.After-has_zero) → c.has_zero.result ≡ b
     window_found a.p.now a.latest ≡ value (cond b warm_up window))
 unfolding window_found
 to_zeros b c e =
-    let k = c in
-    let r = k in
+    let k = c.before in
+    let r = k.before.before in
     let n = r.args.latest in
-    given_no _ _ _ (latest r)
+    given_no _ _ _ (latest r.before)
     ∙ given_no _ _ _ (ap not (eq-eqb _ _ (size k)))
     ∙ ap (λ (z : Bool). value (cond z warm_up window)) (sym (ap (λ x. has_zero x n) r.readings_of-bytes.ensures) ∙ sym c.has_zero.ensures ∙ e)
 
 pub returns-then-has_zero : goal.returns-then-has_zero
-returns-then-has_zero c = sym (to_zeros _ c c.if-has_zero.true)
+returns-then-has_zero c = sym (to_zeros _ c.before c.if-has_zero.true)
 
 pub returns : goal.returns
-returns c = sym (to_zeros _ c c.if-has_zero.false)
+returns c = sym (to_zeros _ c.before c.if-has_zero.false)

@@ -18,7 +18,7 @@ loop-i-init c = (omega arith, every_none _)
 pub returns-then-not-same_bits : goal.returns-then-not-same_bits
 unfolding same_floats float_at
 returns-then-not-same_bits c =
-    let t = c in
+    let t = c.before.before.before.before.before.before in
     let f = t.args.floats.now in
     let v = c.of_bits.ensures ∙ ap (of_bits binary32) c.u32_at.ensures in
     let r = c.same_bits in
@@ -27,7 +27,7 @@ returns-then-not-same_bits c =
 pub loop-i-preserved : goal.loop-i-preserved
 unfolding float_at
 loop-i-preserved c =
-    let t = c in
+    let t = c.before.before.before.before.before.before in
     let f = t.args.floats.now in
     let v = c.of_bits.ensures ∙ ap (of_bits binary32) c.u32_at.ensures in
     let r = c.same_bits in
@@ -36,6 +36,6 @@ loop-i-preserved c =
 pub returns : goal.returns
 unfolding same_floats
 returns c =
-    let t = c in
+    let t = c.before in
     let e : t.loop-i.i ≡ length t.args.floats.now = omega arith in
     sym (rw e at t.loop-i.invariant.1)

@@ -15,8 +15,8 @@ returns-in_default c = by_unknown _ _ c.format_named.ensures c.in_default.is
 pub returns-in-Refused : goal.returns-in-Refused
 unfolding close_says
 returns-in-Refused c =
-    let p = c in
-    let f = p in
+    let p = c.before in
+    let f = p.before in
     refused_out _ _ p.close_refusal.ensures c.in-Refused.is ∙ by_known _ _ f.format_named.ensures f.in-Known.is
 
 able : (c : goal.In_default-close_refusal) → let a = c.args in
@@ -27,16 +27,16 @@ pub meet-requires : goal.meet-requires
 meet-requires c = let r = able c in (r.able.shape, r.row_in, r.able.has_room.slots_enough)
 
 pub offset_bounds-y-row : goal.offset_bounds-y-row
-offset_bounds-y-row c = let r = able c in omega (arith, r.row_in, r.outputs_enough)
+offset_bounds-y-row c = let r = able c.before in omega (arith, r.row_in, r.outputs_enough)
 
 pub bounds-y-row : goal.bounds-y-row
-bounds-y-row c = let r = able c in omega (arith, r.row_in, r.outputs_enough)
+bounds-y-row c = let r = able c.before in omega (arith, r.row_in, r.outputs_enough)
 
 pub returns : goal.returns
 unfolding close_says
 returns c =
-    let e = c in
-    let p = e in
-    let f = p in
+    let e = c.before in
+    let p = e.before in
+    let f = p.before in
     rw c.meet.ensures
     (done_out _ _ p.close_refusal.ensures e.in_default-close_refusal.is ∙ by_known _ _ f.format_named.ensures f.in-Known.is)

@@ -24,8 +24,8 @@ returns-in_default c = by_unknown _ _ c.format_named.ensures c.in_default.is
 pub returns-in-Refused : goal.returns-in-Refused
 unfolding open_says
 returns-in-Refused c =
-    let p = c in
-    let f = p in
+    let p = c.before in
+    let f = p.before in
     refused_out _ _ p.open_refusal.ensures c.in-Refused.is ∙ by_known _ _ f.format_named.ensures f.in-Known.is
 
 able : (c : goal.In_default-open_refusal) → let a = c.args in
@@ -36,27 +36,27 @@ pub pieces_of-n-requires : goal.pieces_of-n-requires
 pieces_of-n-requires c = (able c).shape
 
 pub slice_bounds-clear_slots-end : goal.slice_bounds-clear_slots-end
-slice_bounds-clear_slots-end c = omega (arith, c.pieces_of-n.ensures, (able c).has_room.slots_enough)
+slice_bounds-clear_slots-end c = omega (arith, c.pieces_of-n.ensures, (able c.before).has_room.slots_enough)
 
 pub slice_bounds-clear_slots-end-2 : goal.slice_bounds-clear_slots-end-2
-slice_bounds-clear_slots-end-2 c = sym (length-take-le _ _ (slice_bounds-clear_slots-end c))
+slice_bounds-clear_slots-end-2 c = sym (length-take-le _ _ (slice_bounds-clear_slots-end c.before))
 
 pub slice_bounds-clear_marks-end : goal.slice_bounds-clear_marks-end
 slice_bounds-clear_marks-end c =
-    let k = c in
-    omega (arith, k.pieces_of-n.ensures, (able k).has_room.marks_enough)
+    let k = c.before.before.before.before in
+    omega (arith, k.pieces_of-n.ensures, (able k.before).has_room.marks_enough)
 
 pub slice_bounds-clear_marks-end-2 : goal.slice_bounds-clear_marks-end-2
-slice_bounds-clear_marks-end-2 c = sym (length-take-le _ _ (slice_bounds-clear_marks-end c))
+slice_bounds-clear_marks-end-2 c = sym (length-take-le _ _ (slice_bounds-clear_marks-end c.before))
 
 pub returns : goal.returns
 unfolding open_says
 returns c =
-    let m = c in
-    let s = m in
-    let e = s in
-    let p = e in
-    let f = p in
+    let m = c.before.before in
+    let s = m.before.before.before.before in
+    let e = s.before.before.before in
+    let p = e.before in
+    let f = p.before in
     let a = f.args in
     let n = s.pieces_of-n in
     let room = (able e).has_room in

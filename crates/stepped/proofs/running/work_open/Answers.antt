@@ -20,13 +20,13 @@ loop-chunk-init c = (omega arith, record { slots_len = refl; marks_len = refl; f
 
 -- the places, back from the first test in the inner loop
 abbrev start : goal.Else-done-budget → goal.Start
-start c = c
+start c = c.before.before.before.before.before.before.before.before.before.before
 
 abbrev outer : goal.Else-done-budget → goal.At-rows
-outer c = c
+outer c = c.before.before.before.before
 
 abbrev inner : goal.Else-done-budget → goal.At-loop-chunk
-inner c = c
+inner c = c.before.before
 
 inside : (c : goal.Else-done-budget) → InLayer (start c).args.l (outer c).rows.row (inner c).loop.chunk
 inside c = record { row_in = c.rows-test.true; chunk_in = omega (arith, (outer c).before.chunks_of.ensures, c.loop-chunk-test.true) }
@@ -39,12 +39,12 @@ place_of-at-requires c = ((start c).requires.0.shape, inside c)
 
 pub bounds-marks-at : goal.bounds-marks-at
 bounds-marks-at c =
-    let e = c in
+    let e = c.before.before in
     omega (arith, c.place_of-at.ensures, place_within _ _ _ (inside e), (start e).requires.1.marks_enough, (inner e).loop.invariant.1.marks_len, (outer e).rows.invariant.1.marks_len)
 
 pub work_one-requires : goal.work_one-requires
 work_one-requires c =
-    let e = c in
+    let e = c.before.before.before.before.before in
     let p = (start e).requires in (
       p.0,
       record {
@@ -56,12 +56,12 @@ work_one-requires c =
 
 pub overflow_add-done : goal.overflow_add-done
 overflow_add-done c =
-    let e = c in
+    let e = c.before.before.before.before.before.before.before.before.before.before in
     omega (arith, fewer e, (start e).ranges.budget)
 
 pub loop-chunk-preserved : goal.loop-chunk-preserved
 loop-chunk-preserved c =
-    let e = c in
+    let e = c.before.before.before in
     let a = (start e).args in
     let o = (outer e).rows in
     let i = (inner e).loop in
@@ -80,7 +80,7 @@ loop-chunk-preserved c =
 pub rows-preserved : goal.rows-preserved
 rows-preserved c =
     let i = c.loop-chunk in
-    let o = c in
+    let o = c.before.before.before in
     let a = o.args in
     let full : i.chunk ≡ o.chunks_of-chunks.result = omega arith in (
       omega arith,
@@ -97,7 +97,7 @@ shape_of-marks-after-rows c = c.rows.invariant.1.marks_len
 pub returns-after-rows : goal.returns-after-rows
 unfolding run_work
 returns-after-rows c =
-    let o = c in
+    let o = c.before in
     let full : o.rows.row ≡ o.args.l.out_feat = omega arith in
     simp full at o.rows.invariant.1.state
 
@@ -110,8 +110,8 @@ shape_of-marks-then-done-budget c = c.loop-chunk.invariant.1.marks_len ∙ c.row
 pub returns-then-done-budget : goal.returns-then-done-budget
 unfolding run_work
 returns-then-done-budget c =
-    let i = c in
-    let o = i in
+    let i = c.before.before in
+    let o = i.before.before in
     let a = o.args in
     let e = i.loop-chunk.invariant.1.state ∙ ap (visit_row a.format a.l a.w.now a.x.now a.budget o.rows.row i.loop-chunk.chunk) o.rows.invariant.1.state in
     sym

@@ -15,7 +15,7 @@ use Rattle.stepped_pieces.specs.Pieces.{sum_at}
 use Rattle.stepped_pieces.proofs.pieces.chunk_sum.Goals as goal
 
 abbrev start : goal.After-row_bytes-size → goal.Start
-start c = c
+start c = c.before.before.before
 
 pub row_bytes-size-requires : goal.row_bytes-size-requires
 row_bytes-size-requires c = (shaped _ c.requires.0.shape).inputs
@@ -38,7 +38,7 @@ slice_bounds-chunk_dot-end c = omega (arith, row_in c)
 pub chunk_dot-requires : goal.chunk_dot-requires
 unfolding chunks
 chunk_dot-requires c =
-    let b = c in
+    let b = c.before in
     let t = start b in
     let a = t.args in
     let size = b.row_bytes-size.result in (
@@ -51,7 +51,7 @@ chunk_dot-requires c =
 pub returns : goal.returns
 unfolding sum_at
 returns c =
-    let b = c in
+    let b = c.before.before in
     let a = (start b).args in
     c.chunk_dot.ensures
     ∙ ap (λ (v : List ℕ). chunk_at (terms a.format a.x.now v) a.l.in_feat a.chunk)

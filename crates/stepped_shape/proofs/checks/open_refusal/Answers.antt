@@ -17,4 +17,4 @@ room_refusal-requires c = shape c
 
 pub returns : goal.returns
 unfolding open_refusal
-returns c = c.room_refusal.ensures ∙ sym (else_later _ _ (shape c))
+returns c = c.room_refusal.ensures ∙ sym (else_later _ _ (shape c.before))

@@ -21,37 +21,37 @@ able c = check_passed c.work_refusal.ensures c.in_default.is
 
 pub returns-then-row-l : goal.returns-then-row-l
 unfolding piece_refusal
-returns-then-row-l c = sym (else_later _ _ (able c) ∙ given_yes _ _ _ (le-leb _ _ c.if-row-l.true))
+returns-then-row-l c = sym (else_later _ _ (able c.before.before) ∙ given_yes _ _ _ (le-leb _ _ c.if-row-l.true))
 
 pub chunks_of-requires : goal.chunks_of-requires
-chunks_of-requires c = (workable _ _ _ _ _ _ (able c)).ready.shape
+chunks_of-requires c = (workable _ _ _ _ _ _ (able c.before.before)).ready.shape
 
 pub returns-then-chunk-chunks_of : goal.returns-then-chunk-chunks_of
 unfolding piece_refusal
 returns-then-chunk-chunks_of c =
-    let b = c in
+    let b = c.before.before in
     rw (sym c.chunks_of.ensures)
-    (sym (else_later _ _ (able b) ∙ given_no _ _ _ (lt-leb _ _ b.if-row-l.false) ∙ given_yes _ _ _ (le-leb _ _ c.if-chunk-chunks_of.true)))
+    (sym (else_later _ _ (able b.before.before) ∙ given_no _ _ _ (lt-leb _ _ b.if-row-l.false) ∙ given_yes _ _ _ (le-leb _ _ c.if-chunk-chunks_of.true)))
 
 inside : (c : goal.Else-chunk-chunks_of) → let a = c.args in InLayer a.l a.row a.chunk
 inside c = record { row_in = c.if-row-l.false; chunk_in = omega (arith, c.chunks_of.ensures, c.if-chunk-chunks_of.false) }
 
 pub place_of-at-requires : goal.place_of-at-requires
-place_of-at-requires c = ((workable _ _ _ _ _ _ (able c)).ready.shape, inside c)
+place_of-at-requires c = ((workable _ _ _ _ _ _ (able c.before.before.before.before)).ready.shape, inside c)
 
 pub bounds-marks-at : goal.bounds-marks-at
 bounds-marks-at c =
-    let b = c in
-    omega (arith, c.place_of-at.ensures, (workable _ _ _ _ _ _ (able b)).has_room.marks_enough)
+    let b = c.before.before.before.before in
+    omega (arith, c.place_of-at.ensures, (workable _ _ _ _ _ _ (able b.before.before)).has_room.marks_enough)
 
 pub returns-then-marks-at-ne0 : goal.returns-then-marks-at-ne0
 unfolding piece_refusal
 returns-then-marks-at-ne0 c =
-    let e = c in
-    let b = e in
+    let e = c.before.before.before in
+    let b = e.before.before in
     rw (sym c.place_of-at.ensures.0)
     (sym
-    (else_later _ _ (able b)
+    (else_later _ _ (able b.before.before)
     ∙ given_no _ _ _ (lt-leb _ _ b.if-row-l.false)
     ∙ given_no _ _ _ (lt-leb _ _ (inside e).chunk_in)
     ∙ given_yes _ _ _ (ap not (ne_eqb _ _ c.if-marks-at-ne0.true))))
@@ -59,11 +59,11 @@ returns-then-marks-at-ne0 c =
 pub returns : goal.returns
 unfolding piece_refusal
 returns c =
-    let e = c in
-    let b = e in
+    let e = c.before.before.before in
+    let b = e.before.before in
     rw (sym c.place_of-at.ensures.0)
     (sym
-    (else_later _ _ (able b)
+    (else_later _ _ (able b.before.before)
     ∙ given_no _ _ _ (lt-leb _ _ b.if-row-l.false)
     ∙ given_no _ _ _ (lt-leb _ _ (inside e).chunk_in)
     ∙ given_no _ _ _ (ap not (eq-eqb _ _ c.if-marks-at-ne0.false))))

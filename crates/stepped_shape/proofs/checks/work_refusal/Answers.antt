@@ -18,33 +18,33 @@ pub weight_bytes-requires : goal.weight_bytes-requires
 weight_bytes-requires c = let s = shaped _ (shape c) in (s.inputs, s.outputs)
 
 pub layer_short-requires : goal.layer_short-requires
-layer_short-requires c = let s = shaped _ (shape c) in (s.inputs, s.outputs)
+layer_short-requires c = let s = shaped _ (shape c.before.before) in (s.inputs, s.outputs)
 
 pub returns-then-weights-weight_bytes : goal.returns-then-weights-weight_bytes
 unfolding work_refusal
 returns-then-weights-weight_bytes c =
-    let i = c in
-    let b = i in
+    let i = c.before in
+    let b = i.before in
     rw (sym b.weight_bytes.ensures)
-    (ap refused c.layer_short.ensures ∙ sym (else_later _ _ (shape b) ∙ given_yes _ _ _ (lt-ltb _ _ i.if-weights-weight_bytes.true)))
+    (ap refused c.layer_short.ensures ∙ sym (else_later _ _ (shape b.before) ∙ given_yes _ _ _ (lt-ltb _ _ i.if-weights-weight_bytes.true)))
 
 pub returns-then-readings-l : goal.returns-then-readings-l
 unfolding work_refusal
 returns-then-readings-l c =
-    let a = c in
-    let b = a in
+    let a = c.before.before in
+    let b = a.before in
     rw (sym b.weight_bytes.ensures)
-    (sym (else_later _ _ (shape b) ∙ given_no _ _ _ (le-ltb _ _ a.if-weights-weight_bytes.false) ∙ given_yes _ _ _ (lt-ltb _ _ c.if-readings-l.true)))
+    (sym (else_later _ _ (shape b.before) ∙ given_no _ _ _ (le-ltb _ _ a.if-weights-weight_bytes.false) ∙ given_yes _ _ _ (lt-ltb _ _ c.if-readings-l.true)))
 
 pub room_refusal-requires : goal.room_refusal-requires
-room_refusal-requires c = shape c
+room_refusal-requires c = shape c.before.before.before.before
 
 pub returns : goal.returns
 unfolding work_refusal
 returns c =
-    let d = c in
-    let a = d in
-    let b = a in
+    let d = c.before in
+    let a = d.before.before in
+    let b = a.before in
     rw (sym b.weight_bytes.ensures)
     (c.room_refusal.ensures
-    ∙ sym (else_later _ _ (shape b) ∙ given_no _ _ _ (le-ltb _ _ a.if-weights-weight_bytes.false) ∙ given_no _ _ _ (le-ltb _ _ d.if-readings-l.false)))
+    ∙ sym (else_later _ _ (shape b.before) ∙ given_no _ _ _ (le-ltb _ _ a.if-weights-weight_bytes.false) ∙ given_no _ _ _ (le-ltb _ _ d.if-readings-l.false)))
