@@ -8,6 +8,7 @@ use mir.Syntax.{w8, w16}
 use mir.Val.{to_z, of_z}
 use Rattle.numbers.proofs.Signed.{read_is, byte_read}
 use Rattle.nearest.specs.Inner.{next_is_nearer}
+use Rattle.nearest.proofs.next_is_nearer.Goals.{After-sum_of-2}
 use Rattle.nearest.proofs.next_is_nearer.Goals as goal
 
 -- the sum of two bytes, as the code compares it
@@ -15,9 +16,9 @@ read_sum : (x y : ℤ) {s : ℤ} → mag s < 2 ^ 15 → mag x < 128 → mag y < 
 read_sum x y {s} p h k e = read_is w16 s p ∙ e ∙ ap (λ (z : ℤ). z +ℤ byte_read y) (read_is w8 x h) ∙ ap (λ (z : ℤ). x +ℤ z) (read_is w8 y k)
 
 -- what the code compares is what the definition does
-told : (c : goal.After-sum_of-2) → (let a = c.args in lt_z (to_z w16 (of_z w16 c.sum_of.result)) (to_z w16 (of_z w16 c.sum_of-2.result)) ≡ lt_z (a.value +ℤ a.next) (a.q +ℤ a.q))
+told : (c : After-sum_of-2) → (let a = c.args in lt_z (to_z w16 (of_z w16 c.sum_of.result)) (to_z w16 (of_z w16 c.sum_of-2.result)) ≡ lt_z (a.value +ℤ a.next) (a.q +ℤ a.q))
 told c =
-    let s = c.before.before in
+    let s = c in
     let q = s.ranges.q.sfits in
     let both : to_z w16 (of_z w16 c.sum_of.result) ≡ s.args.value +ℤ s.args.next = read_sum s.args.value s.args.next c.sum_of.type_inv s.ranges.value.sfits s.ranges.next.sfits c.sum_of.ensures in
     let twice : to_z w16 (of_z w16 c.sum_of-2.result) ≡ s.args.q +ℤ s.args.q = read_sum s.args.q s.args.q c.sum_of-2.type_inv q q c.sum_of-2.ensures in

@@ -1,16 +1,10 @@
 -- `nibbles_iq4_nl` meets its contract: the places are filled in turn. Assumes nothing.
 use mathlib.Core.Path.{refl}
-use mathlib.Core.List.{List}
-use Prim.Native.Nat.{ℕ, ◌-◌}
-use lib.Ieee.{Float, nan, binary32, mul}
-use lib.ListN.{get_or, replicate}
+use Prim.Native.Nat.{◌-◌}
+use lib.ListN.{replicate}
 use Rattle.memory.proofs.Filled.{filling_start, filling_more, filling_done}
-use Rattle.nearest.specs.Nearest.{quant_iq4_nl}
+use Rattle.nearest.proofs.nibbles_iq4_nl.Invariants.{nibble}
 use Rattle.nearest.proofs.nibbles_iq4_nl.Goals as goal
-
--- the nibble of reading k
-abbrev nibble : List Float → Float → ℕ → ℕ
-nibble x inverse k = quant_iq4_nl (mul binary32 (get_or x k nan) inverse)
 
 pub loop-k-init : goal.loop-k-init
 loop-k-init c = filling_start (nibble c.args.x.now c.args.inverse) (replicate 32 0) 32 refl

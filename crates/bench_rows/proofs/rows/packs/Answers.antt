@@ -17,14 +17,14 @@ packing v = quantize_says Q40 (v ∷ replicate 31 (of_bits binary32 0)) (replica
 
 pub returns-in_default : goal.returns-in_default
 returns-in_default c =
-    let q = c.before.before in
-    let x = q.before.before.before in
+    let q = c in
+    let x = q in
     let a = x.args in
     absurd (packed_done a.first a.a a.b a.c q.quantize_q4_0.result _ (q.quantize_q4_0.ensures ∙ ap packing x.of_bits.ensures) _ c.in_default.is)
 
 pub returns : goal.returns
 returns c =
-    let q = c.before.before.before.before.before in
-    let x = q.before.before.before in
+    let q = c in
+    let x = q in
     let a = x.args in
     c.same_bytes.ensures ∙ packed_judged a.first a.a a.b a.c q.quantize_q4_0.result _ (q.quantize_q4_0.ensures ∙ ap packing x.of_bits.ensures)

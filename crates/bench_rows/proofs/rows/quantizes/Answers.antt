@@ -9,9 +9,9 @@ use Rattle.bench_rows.proofs.rows.quantizes.Goals as goal
 
 pub returns : goal.returns
 returns c =
-    let q = c.before.before in
-    let y = q.before.before in
-    let x = y.before in
+    let q = c in
+    let y = q in
+    let x = y in
     let a = x.args in
     let e = q.quantize_block_q8-answer.ensures.1
     ∙ ap (λ (v : Float). block_said (block_says (v ∷ y.of_bits-2.result ∷ nought ∷ []))) x.of_bits.ensures

@@ -17,7 +17,7 @@ bounds-out-k-in-loop-k c = rw length-set (omega arith)
 
 pub loop-k-preserved : goal.loop-k-preserved
 loop-k-preserved c =
-    let m = c.before.before.before.before.before in
+    let m = c in
     let bs = m.args.block.now in
     let k = m.loop-k.k in
     pairs_more 8 (λ i. i / 2) (moved_byte ToGgml bs) 0 m.loop-k.out k _ _ c.loop-k-test.true (c.low_nibbles.ensures ∙ sym (apart_even bs k)) (c.high_nibbles.ensures ∙ sym (apart_odd bs k))

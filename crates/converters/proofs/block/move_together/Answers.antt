@@ -17,7 +17,7 @@ bounds-out-k-in-loop-k c = rw length-set (omega arith)
 
 pub loop-k-preserved : goal.loop-k-preserved
 loop-k-preserved c =
-    let m = c.before.before.before.before.before in
+    let m = c in
     let bs = m.args.block.now in
     let k = m.loop-k.k in
     let h : k < 8 = c.loop-k-test.true in

@@ -18,5 +18,5 @@ convert_blocks-requires c = whole_and_room _ _ (check_passed c.convert_refusal-c
 pub returns : goal.returns
 unfolding convert_says
 returns c =
-    let f = c.before.before.before.before in
+    let f = c in
     ap (λ (left : List ℕ). (done, left)) c.convert_blocks.ensures ∙ done_out _ _ f.convert_refusal-checked.ensures f.in_default.is

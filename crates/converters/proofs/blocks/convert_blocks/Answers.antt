@@ -26,9 +26,9 @@ convert_block-requires c =
 
 pub loop-b-preserved : goal.loop-b-preserved
 loop-b-preserved c =
-    let d = c.before.before.before.before.before in
+    let d = c in
     let l = d.loop-b in
-    let t = d.before.before.before.before in
+    let t = d in
     let to = t.args.direction in
     let bs = t.args.bytes.now in
     let b = l.b in
@@ -43,7 +43,7 @@ shape_of-out c = c.loop-b.invariant.2
 pub returns : goal.returns
 returns c =
     let l = c.loop-b in
-    let t = c.before.before.before.before in
+    let t = c in
     let f = converted_at t.args.direction t.args.bytes.now in
     let n = length t.args.bytes.now in
     let whole : n / 18 * 18 ≡ n = omega (arith, t.requires.0) in

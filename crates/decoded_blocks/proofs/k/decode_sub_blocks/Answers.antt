@@ -1,19 +1,11 @@
 -- `k::decode_sub_blocks` meets its contract: in turn e the run of 16 from 16 e on is filled. Assumes nothing.
 use mathlib.Core.Path.{refl, ◌∙◌}
-use Prim.Native.Nat.{ℕ, ◌+◌, ◌-◌, ◌*◌}
-use mathlib.Core.List.{List}
-use lib.IntN.{pos}
-use lib.ListN.{get_or}
-use lib.Ieee.{Float}
+use Prim.Native.Nat.{◌+◌, ◌-◌, ◌*◌}
 use native.Mathlib.Omega.{arith}
-use Rattle.layouts.specs.K.{value_of}
-use Rattle.layouts.specs.declared.format.FormatK.TheVariants.{Q4K}
 use Rattle.memory.proofs.Parts.{parts_none, parts_more}
 use Rattle.decoded_blocks.proofs.Runs.{run_lengths, runs_done, sub_block_run}
+use Rattle.decoded_blocks.proofs.k.decode_sub_blocks.Invariants.{values}
 use Rattle.decoded_blocks.proofs.k.decode_sub_blocks.Goals as goal
-
-abbrev values : List ℕ → List ℕ → ℕ → Float
-values bs q i = value_of Q4K bs i (pos (get_or q i 0))
 
 pub loop-e-init : goal.loop-e-init
 loop-e-init c = let a = c.args in parts_none (values a.block.now a.q.now) a.out.now (λ r. 16 * r) 16 refl
@@ -21,15 +13,15 @@ loop-e-init c = let a = c.args in parts_none (values a.block.now a.q.now) a.out.
 pub scale_run_less-requires : goal.scale_run_less-requires
 scale_run_less-requires c =
     let l = c.loop-e in
-    let t = c.before.before.before.before.before.before.before.before in
+    let t = c in
     run_lengths t.args.q.now l.out 16 l.e t.requires.1 (l.invariant.2 ∙ t.requires.2) (omega arith)
 
 pub loop-e-preserved : goal.loop-e-preserved
 loop-e-preserved c =
-    let f = c.before.before.before.before.before.before.before in
+    let f = c in
     let l = c.loop-e in
     let h = c.loop-e-test.true in
-    let t = f.before.before.before.before in
+    let t = f in
     let bs = t.args.block.now in
     let q = t.args.q.now in
     let e = l.e in
@@ -42,5 +34,5 @@ shape_of-out c = c.loop-e.invariant.2
 pub returns : goal.returns
 returns c =
     let l = c.loop-e in
-    let t = c.before.before.before.before.before.before in
+    let t = c in
     runs_done (values t.args.block.now t.args.q.now) t.args.out.now l.out 16 l.e t.requires.2 (omega arith) l.invariant

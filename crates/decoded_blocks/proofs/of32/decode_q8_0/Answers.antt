@@ -11,21 +11,21 @@ use Rattle.decoded_blocks.proofs.of32.decode_q8_0.Goals as goal
 
 pub loop-k-init : goal.loop-k-init
 loop-k-init c =
-    let t = c.before.before.before.before.before.before.before in
+    let t = c in
     filling_start (at c.f16_to_f32-s.result c.quants_q8_0-q.result) t.args.out.now 32 t.requires.1
 
 pub loop-k-preserved : goal.loop-k-preserved
 loop-k-preserved c =
-    let d = c.before.before.before in
-    let t = d.before.before.before.before.before.before.before.before in
+    let d = c in
+    let t = d in
     let q = d.quants_q8_0-q.result in
     let s = d.f16_to_f32-s.result in
     filling_more (at s q) t.args.out.now 32 d.loop-k.out d.loop-k.k _ t.requires.1 d.loop-k.invariant c.loop-k-test.true (ap (times s) (read_is w8 _ c.out-1.given))
 
 pub returns : goal.returns
 returns c =
-    let d = c.before in
-    let t = d.before.before.before.before.before.before.before.before in
+    let d = c in
+    let t = d in
     let q = d.quants_q8_0-q in
     let s = d.f16_to_f32-s in
     let bs = t.args.block.now in

@@ -16,13 +16,13 @@ loop-e-init c =
 
 pub scale_run-requires : goal.scale_run-requires
 scale_run-requires c =
-    let d = c.before.before.before in
-    let t = d.before.before in
+    let d = c in
+    let t = d in
     run_lengths t.args.q.now d.loop-e.out 2 d.loop-e.e (omega arith) (d.loop-e.invariant.2 ∙ t.requires.1) (omega arith)
 
 pub loop-e-preserved : goal.loop-e-preserved
 loop-e-preserved c =
-    let d = c.before.before.before.before.before.before in
+    let d = c in
     let a = d.args in
     let q = a.q.now in
     let e = d.loop-e.e in
@@ -32,6 +32,6 @@ loop-e-preserved c =
 pub returns : goal.returns
 returns c =
     let l = c.loop-e in
-    let t = c.before.before.before in
+    let t = c in
     let a = t.args in
     runs_done (at a.s a.q.now) a.out.now l.out 2 l.e t.requires.1 (omega arith) l.invariant

@@ -12,13 +12,13 @@ loop-l-init c = filling_start (at c.args.s c.args.q.now) c.args.out.now 16 c.req
 
 pub loop-l-preserved : goal.loop-l-preserved
 loop-l-preserved c =
-    let d = c.before.before.before in
-    let t = d.before in
+    let d = c in
+    let t = d in
     filling_more (at t.args.s t.args.q.now) t.args.out.now 16 d.loop-l.out d.loop-l.l _ t.requires.1 d.loop-l.invariant c.loop-l-test.true
     (ap (times t.args.s) (read_is w8 _ c.out-1.given))
 
 pub returns : goal.returns
 returns c =
-    let d = c.before in
-    let t = d.before in
+    let d = c in
+    let t = d in
     filling_done (at t.args.s t.args.q.now) t.args.out.now 16 d.loop-l.out d.loop-l.l t.requires.1 d.loop-l.invariant c.loop-l-test.false

@@ -10,6 +10,7 @@ use Rattle.memory.proofs.Filled.{filled_none, filled_all, part_length, part_turn
 use Rattle.memory.proofs.Parts.{within_whole}
 use Rattle.layouts.specs.Weights.{value_in, weight_at}
 use Rattle.layouts.proofs.Sizes.{sizes, placed}
+use Rattle.decoded_rows.proofs.row.decode_parts.Goals.{After-smaller, In-loop-at}
 use Rattle.decoded_rows.proofs.row.decode_parts.Goals as goal
 
 pub loop-at-init : goal.loop-at-init
@@ -22,15 +23,15 @@ pub record Here (size values place room b inside : ℕ) : Type 0 where
   pub adds : b * values + inside ≡ place
   pub stop : b * size + size ≤ room
 
-here : (c : goal.In-loop-at)
+here : (c : In-loop-at)
     → (let v = c.block_values-values.result in
-    let t = c.before.before.before.before.before.before in
+    let t = c in
     let place = t.args.from + c.loop-at.at in
     Here c.block_bytes-size.result v place (length t.args.w.now) (place / v) (place % v))
 here c =
     let values = c.block_values-values in
     let size = c.block_bytes-size in
-    let t = c.before.before.before.before.before.before in
+    let t = c in
     let v = values.result in
     let z = size.result in
     let room = length t.args.w.now in
@@ -53,77 +54,77 @@ pub overflow_sub-n : goal.overflow_sub-n
 overflow_sub-n c = omega (arith, c.loop-at-test.true)
 
 -- how many places of it a turn takes: one at least, and no more than there are
-count : (c : goal.After-smaller)
-    → (let d = c.before in
-    let t = d.before.before.before.before.before.before in
+count : (c : After-smaller)
+    → (let d = c in
+    let t = d in
     let v = d.block_values-values.result in
     let at = d.loop-at.at in
     (0 < c.smaller.result) × (c.smaller.result ≤ v - (t.args.from + at) % v) × (at + c.smaller.result ≤ length t.args.out.now))
 count c =
-    let d = c.before in
-    let k = (here d).inner in
+    let d = c in
+    let k = (here (record { before = c.before.before; type_inv = record { w = c.type_inv.w } })).inner in
     (omega (arith, k, d.loop-at-test.true, c.smaller.ensures), omega (arith, c.smaller.ensures), omega (arith, d.loop-at-test.true, c.smaller.ensures))
 
 pub overflow_add-end : goal.overflow_add-end
 overflow_add-end c = omega (arith, count c)
 
 pub overflow_mul-start : goal.overflow_mul-start
-overflow_mul-start c = omega (arith, (here c.before).stop)
+overflow_mul-start c = omega (arith, (here (record { before = c.before.before; type_inv = record { w = c.type_inv.w } })).stop)
 
 pub overflow_add-stop : goal.overflow_add-stop
-overflow_add-stop c = omega (arith, (here c.before).stop)
+overflow_add-stop c = omega (arith, (here (record { before = c.before.before; type_inv = record { w = c.type_inv.w } })).stop)
 
 pub slice_bounds-decode_within-count : goal.slice_bounds-decode_within-count
-slice_bounds-decode_within-count c = omega (arith, (here c.before).stop)
+slice_bounds-decode_within-count c = omega (arith, (here (record { before = c.before.before; type_inv = record { w = c.type_inv.w } })).stop)
 
 pub slice_bounds-decode_within-start : goal.slice_bounds-decode_within-start
-slice_bounds-decode_within-start c = omega (arith, (here c.before).stop)
+slice_bounds-decode_within-start c = omega (arith, (here (record { before = c.before.before; type_inv = record { w = c.type_inv.w } })).stop)
 
 pub slice_bounds-decode_within-end : goal.slice_bounds-decode_within-end
-slice_bounds-decode_within-end c = omega (arith, (here c.before).stop)
+slice_bounds-decode_within-end c = omega (arith, (here (record { before = c.before.before; type_inv = record { w = c.type_inv.w } })).stop)
 
 pub offset_bounds-out-at : goal.offset_bounds-out-at
-offset_bounds-out-at c = omega (arith, count c.before)
+offset_bounds-out-at c = omega (arith, count (record { before = c.before.before; type_inv = record { w = c.type_inv.w } }))
 
 pub slice_bounds-decode_within-count-in-loop-at : goal.slice_bounds-decode_within-count-in-loop-at
-slice_bounds-decode_within-count-in-loop-at c = omega (arith, count c.before)
+slice_bounds-decode_within-count-in-loop-at c = omega (arith, count (record { before = c.before.before; type_inv = record { w = c.type_inv.w } }))
 
 pub slice_bounds-decode_within-start-in-loop-at : goal.slice_bounds-decode_within-start-in-loop-at
-slice_bounds-decode_within-start-in-loop-at c = omega (arith, count c.before)
+slice_bounds-decode_within-start-in-loop-at c = omega (arith, count (record { before = c.before.before; type_inv = record { w = c.type_inv.w } }))
 
 pub slice_bounds-decode_within-end-in-loop-at : goal.slice_bounds-decode_within-end-in-loop-at
-slice_bounds-decode_within-end-in-loop-at c = omega (arith, count c.before, c.loop-at.invariant.2)
+slice_bounds-decode_within-end-in-loop-at c = omega (arith, count (record { before = c.before.before; type_inv = record { w = c.type_inv.w } }), c.loop-at.invariant.2)
 
 -- the places that a turn fills
-lent : (c : goal.After-smaller) → (let l = c.loop-at in length (take (l.at + c.smaller.result - l.at) (drop l.at l.out)) ≡ c.smaller.result)
+lent : (c : After-smaller) → (let l = c.loop-at in length (take (l.at + c.smaller.result - l.at) (drop l.at l.out)) ≡ c.smaller.result)
 lent c =
     let l = c.loop-at in
     part_length l.out l.at c.smaller.result (l.at + c.smaller.result) refl (omega (arith, (count c).2, l.invariant.2))
 
 pub decode_within-requires : goal.decode_within-requires
 decode_within-requires c =
-    let e = c.before.before in
-    let d = e.before in
+    let e = c in
+    let d = e in
     let size = d.block_bytes-size in
     let values = d.block_values-values in
-    let t = d.before.before.before.before.before.before in
+    let t = d in
     let b = (t.args.from + d.loop-at.at) / values.result in
-    let k = count e in (
-      part_length t.args.w.now (b * size.result) size.result (b * size.result + size.result) refl (here d).stop ∙ size.ensures,
-      rw (lent e, sym values.ensures) (omega (arith, k.1, (here d).inner)),
+    let k = count (record { before = c.before.before.before; type_inv = record { w = c.type_inv.w } }) in (
+      part_length t.args.w.now (b * size.result) size.result (b * size.result + size.result) refl (here (record { before = c.before.before.before.before; type_inv = record { w = c.type_inv.w } })).stop ∙ size.ensures,
+      rw (lent (record { before = c.before.before.before; type_inv = record { w = c.type_inv.w } }), sym values.ensures) (omega (arith, k.1, (here (record { before = c.before.before.before.before; type_inv = record { w = c.type_inv.w } })).inner)),
     )
 
 pub loop-at-smaller : goal.loop-at-smaller
-loop-at-smaller c = let e = c.before.before.before.before.before in omega (arith, count e, e.loop-at-test.true)
+loop-at-smaller c = let e = c in omega (arith, count (record { before = c.before.before.before.before.before.before; type_inv = record { w = c.type_inv.w } }), e.loop-at-test.true)
 
 pub loop-at-preserved : goal.loop-at-preserved
 loop-at-preserved c =
-    let e = c.before.before.before.before.before in
-    let d = e.before in
+    let e = c in
+    let d = e in
     let l = d.loop-at in
     let size = d.block_bytes-size in
     let values = d.block_values-values in
-    let t = d.before.before.before.before.before.before in
+    let t = d in
     let f = t.args.format in
     let w = t.args.w.now in
     let z = size.result in
@@ -135,13 +136,13 @@ loop-at-preserved c =
     let bytes = take (b * z + z - b * z) (drop (b * z) w) in
     let g : ℕ → Float = λ i. value_in f bytes (inside + i) in
     let whole : ℕ → Float = λ i. weight_at f w (t.args.from + i) in
-    let k = here d in
-    let n = count e in
+    let k = here (record { before = c.before.before.before.before.before.before.before; type_inv = record { w = c.type_inv.w } }) in
+    let n = count (record { before = c.before.before.before.before.before.before; type_inv = record { w = c.type_inv.w } }) in
     let same : (i : ℕ) → i < r → g i ≡ whole (l.at + i) = λ i h.
     placed f w b (inside + i) z v size.ensures values.ensures (omega (arith, n.1, k.inner, h)) ∙ ap (weight_at f w) (omega (arith, k.adds)) in
     let p =
     part_turn whole g t.args.out.now l.out c.decode_within.new.out l.at r (l.at + r) (l.at + r) refl refl n.2 l.invariant.0
-    (c.decode_within.ensures ∙ ap (table g) (lent e)) same in
+    (c.decode_within.ensures ∙ ap (table g) (lent (record { before = c.before.before.before.before.before.before; type_inv = record { w = c.type_inv.w } }))) same in
     (p.0, n.2, p.1)
 
 pub shape_of-out : goal.shape_of-out
@@ -150,7 +151,7 @@ shape_of-out c = c.loop-at.invariant.2
 pub returns : goal.returns
 returns c =
     let l = c.loop-at in
-    let t = c.before.before.before.before.before.before in
+    let t = c in
     let whole : ℕ → Float = λ i. weight_at t.args.format t.args.w.now (t.args.from + i) in
     let e : l.at ≡ length t.args.out.now = le_antisymm l.invariant.1 c.loop-at-test.false in
     l.invariant.0 ∙ ap (filled whole t.args.out.now) e ∙ filled_all whole t.args.out.now (length t.args.out.now) (le_of_eq refl)

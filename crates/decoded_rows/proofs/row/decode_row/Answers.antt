@@ -9,10 +9,11 @@ use Rattle.memory.proofs.Filled.{filled_all, table_ext}
 use Rattle.layouts.specs.Weights.{weight_at}
 use Rattle.layouts.proofs.Sizes.{sizes}
 use Rattle.decoded_rows.proofs.WholeRows.{row_fits, row_values, row_weights}
+use Rattle.decoded_rows.proofs.row.decode_row.Goals.{After-block_values-values, Else-from-values-gt0}
 use Rattle.decoded_rows.proofs.row.decode_row.Goals as goal
 
 -- a block has values, and not many
-some : (c : goal.After-block_values-values) → (0 < c.block_values-values.result) × (c.block_values-values.result ≤ 256)
+some : (c : After-block_values-values) → (0 < c.block_values-values.result) × (c.block_values-values.result ≤ 256)
 some c = let s = sizes c.args.format in (omega (arith, s, c.block_values-values.ensures), omega (arith, s, c.block_values-values.ensures))
 
 pub nonzero_rem-from : goal.nonzero_rem-from
@@ -23,7 +24,7 @@ nonzero_rem-n c = (some c).0
 
 pub overflow_add-from : goal.overflow_add-from
 overflow_add-from c =
-    let t = c.before.before.before.before in
+    let t = c in
     omega (arith, some c, mod-lt t.args.from (some c).0, mod-lt (length t.args.out.now) (some c).0)
 
 pub decode_parts-requires : goal.decode_parts-requires
@@ -33,22 +34,22 @@ pub returns-then-from-values-gt0 : goal.returns-then-from-values-gt0
 returns-then-from-values-gt0 c = c.decode_parts.ensures
 
 -- the row's blocks lie within the weights
-fits : (c : goal.Else-from-values-gt0) → (let t = c.before.before.before.before.before in
+fits : (c : Else-from-values-gt0) → (let t = c in
     let z = c.block_bytes-size.result in
     let v = c.block_values-values.result in
     t.args.from / v * z + length t.args.out.now / v * z ≤ length t.args.w.now)
 fits c =
-    let t = c.before.before.before.before.before in
+    let t = c in
     row_fits t.args.format t.args.w.now t.args.from (length t.args.out.now) _ _ c.block_bytes-size.ensures c.block_values-values.ensures c.if-from-values-gt0.false t.requires.0
 
 pub nonzero_div-start : goal.nonzero_div-start
-nonzero_div-start c = (some c.before).0
+nonzero_div-start c = (some (record { before = c.before.before; type_inv = record { out = c.type_inv.out; w = c.type_inv.w } })).0
 
 pub overflow_mul-start : goal.overflow_mul-start
 overflow_mul-start c = omega (arith, fits c)
 
 pub nonzero_div-stop : goal.nonzero_div-stop
-nonzero_div-stop c = (some c.before).0
+nonzero_div-stop c = (some (record { before = c.before.before; type_inv = record { out = c.type_inv.out; w = c.type_inv.w } })).0
 
 pub overflow_mul-stop : goal.overflow_mul-stop
 overflow_mul-stop c = omega (arith, fits c)
@@ -67,14 +68,14 @@ slice_bounds-decode_blocks-end c = omega (arith, fits c)
 
 pub decode_blocks-requires : goal.decode_blocks-requires
 decode_blocks-requires c =
-    let e = c.before.before in
-    let t = e.before.before.before.before.before in
+    let e = c in
+    let t = e in
     le_of_eq (row_values t.args.format t.args.w.now t.args.from (length t.args.out.now) _ _ e.block_bytes-size.ensures e.block_values-values.ensures e.if-from-values-gt0.false t.requires.0)
 
 pub returns : goal.returns
 returns c =
-    let e = c.before.before.before.before.before in
-    let t = e.before.before.before.before.before in
+    let e = c in
+    let t = e in
     let f = t.args.format in
     let w = t.args.w.now in
     let out = t.args.out.now in

@@ -14,30 +14,31 @@ use Rattle.layouts.specs.Formats.{block_values}
 use Rattle.layouts.specs.Weights.{value_in, weight_at}
 use Rattle.layouts.proofs.Sizes.{sizes}
 use Rattle.decoded_rows.proofs.WholeRows.{block_values_lem, block_weight}
+use Rattle.decoded_rows.proofs.row.decode_within.Goals.{After-block_values-values, In-loop-i}
 use Rattle.decoded_rows.proofs.row.decode_within.Goals as goal
 
 -- a block's values fit the array, and are as many as its front
-front : (c : goal.After-block_values-values) → length (take c.block_values-values.result (replicate 256 nought)) ≡ c.block_values-values.result
+front : (c : After-block_values-values) → length (take c.block_values-values.result (replicate 256 nought)) ≡ c.block_values-values.result
 front c = length-take-le c.block_values-values.result (replicate 256 nought) (omega (arith, sizes c.args.format, c.block_values-values.ensures))
 
 pub slice_bounds-whole-end : goal.slice_bounds-whole-end
 slice_bounds-whole-end c = omega (arith, sizes c.args.format, c.block_values-values.ensures)
 
 pub slice_bounds-decode_blocks-end : goal.slice_bounds-decode_blocks-end
-slice_bounds-decode_blocks-end c = sym (front c.before)
+slice_bounds-decode_blocks-end c = sym (front (record { before = c.before.before; type_inv = record { out = c.type_inv.out; block = c.type_inv.block } }))
 
 pub decode_blocks-requires : goal.decode_blocks-requires
 decode_blocks-requires c =
-    let t = c.before.before.before.before in
-    le_of_eq (block_values_lem t.args.format t.args.block.now t.requires.0 ∙ sym c.block_values-values.ensures ∙ sym (front c.before))
+    let t = c in
+    le_of_eq (block_values_lem t.args.format t.args.block.now t.requires.0 ∙ sym c.block_values-values.ensures ∙ sym (front (record { before = c.before.before; type_inv = record { out = c.type_inv.out; block = c.type_inv.block } })))
 
 pub loop-i-init : goal.loop-i-init
 loop-i-init c = filling_start _ _ _ refl
 
 -- the place that a turn reads is one of the block's
-inside : (c : goal.In-loop-i) → (let t = c.before.before.before.before.before.before.before.before in (t.args.from + c.loop-i.i < block_values t.args.format) × (block_values t.args.format ≤ 256))
+inside : (c : In-loop-i) → (let t = c in (t.args.from + c.loop-i.i < block_values t.args.format) × (block_values t.args.format ≤ 256))
 inside c =
-    let t = c.before.before.before.before.before.before.before.before in
+    let t = c in
     (omega (arith, t.requires.1, c.loop-i-test.true), (sizes t.args.format).3)
 
 pub overflow_add-out : goal.overflow_add-out
@@ -57,7 +58,7 @@ shape_of-out c = c.loop-i.invariant.2
 
 pub returns : goal.returns
 returns c =
-    let t = c.before.before.before.before.before.before.before.before in
+    let t = c in
     let l = c.loop-i in
     let d = c.decode_blocks in
     let values = c.block_values-values in
@@ -67,7 +68,7 @@ returns c =
     let made : d.new.out ≡ table f v =
     d.ensures
     ∙ ap (filled (weight_at t.args.format block) _) (block_values_lem t.args.format block t.requires.0)
-    ∙ filled_all (weight_at t.args.format block) _ v (le_of_eq (front c.before.before.before.before.before ∙ values.ensures))
+    ∙ filled_all (weight_at t.args.format block) _ v (le_of_eq (front (record { before = c.before.before.before.before.before.before; type_inv = record { out = c.type_inv.out; block = c.type_inv.block } }) ∙ values.ensures))
     ∙ table_ext (weight_at t.args.format block) f v (block_weight t.args.format block t.requires.0) in
     filling_done _ _ (length t.args.out.now) l.out l.i refl l.invariant c.loop-i-test.false
     ∙ table_ext _ (λ i. f (t.args.from + i)) (length t.args.out.now) (λ i h.

@@ -11,6 +11,7 @@ use Rattle.layouts.specs.Formats.{block_bytes, block_values}
 use Rattle.layouts.specs.Weights.{value_in, weight_at}
 use Rattle.memory.proofs.Parts.{part_within, parts_none, parts_more, parts_done}
 use Rattle.layouts.proofs.Sizes.{sizes, placed}
+use Rattle.decoders.proofs.blocks.decode_each.Goals.{In-loop-b}
 use Rattle.decoders.proofs.blocks.decode_each.Goals as goal
 
 pub nonzero_div-count : goal.nonzero_div-count
@@ -22,13 +23,13 @@ loop-b-init c =
     parts_none (weight_at a.format a.bytes.now) a.out.now (λ k. k * c.block_values-values.result) _ (zero-mul _)
 
 -- block b lies within the bytes, its values lie within the output, and there are fewer blocks than bytes
-facts : (c : goal.In-loop-b)
+facts : (c : In-loop-b)
     → (let b = c.loop-b.b in
     let size = c.block_bytes-size.result in
     let v = c.block_values-values.result in
     (b * size + size ≤ length c.args.bytes.now) × (b * v + v ≤ length c.args.out.now) × (b < length c.args.bytes.now))
 facts c =
-    let t = c.before.before.before.before.before.before in
+    let t = c in
     let size = c.block_bytes-size in
     let values = c.block_values-values in
     part_within c.loop-b.b size.result values.result (length t.args.bytes.now) (length t.args.out.now) c.loop-b-test.true (rw (size.ensures, values.ensures) t.requires)
@@ -55,40 +56,40 @@ pub slice_bounds-decode_block-end : goal.slice_bounds-decode_block-end
 slice_bounds-decode_block-end c = omega (arith, facts c)
 
 pub offset_bounds-out-at : goal.offset_bounds-out-at
-offset_bounds-out-at c = omega (arith, facts c.before)
+offset_bounds-out-at c = omega (arith, facts (record { before = c.before.before; type_inv = record { bytes = c.type_inv.bytes } }))
 
 pub slice_bounds-decode_block-count-in-loop-b : goal.slice_bounds-decode_block-count-in-loop-b
-slice_bounds-decode_block-count-in-loop-b c = omega (arith, facts c.before)
+slice_bounds-decode_block-count-in-loop-b c = omega (arith, facts (record { before = c.before.before; type_inv = record { bytes = c.type_inv.bytes } }))
 
 pub slice_bounds-decode_block-start-in-loop-b : goal.slice_bounds-decode_block-start-in-loop-b
-slice_bounds-decode_block-start-in-loop-b c = omega (arith, facts c.before)
+slice_bounds-decode_block-start-in-loop-b c = omega (arith, facts (record { before = c.before.before; type_inv = record { bytes = c.type_inv.bytes } }))
 
 pub slice_bounds-decode_block-end-in-loop-b : goal.slice_bounds-decode_block-end-in-loop-b
-slice_bounds-decode_block-end-in-loop-b c = omega (arith, facts c.before)
+slice_bounds-decode_block-end-in-loop-b c = omega (arith, facts (record { before = c.before.before; type_inv = record { bytes = c.type_inv.bytes } }))
 
 pub decode_block-requires : goal.decode_block-requires
 decode_block-requires c =
-    let d = c.before.before in
+    let d = c in
     let l = d.loop-b in
     let size = d.block_bytes-size in
     let values = d.block_values-values in
-    let k = facts d in
+    let k = facts (record { before = c.before.before.before; type_inv = record { bytes = c.type_inv.bytes } }) in
     let room : l.b * values.result + values.result ≤ length l.out = omega (arith, k.1, l.invariant.2) in (
       part_length d.args.bytes.now (l.b * size.result) size.result (l.b * size.result + size.result) refl k.0 ∙ size.ensures,
       part_length l.out (l.b * values.result) values.result (l.b * values.result + values.result) refl room ∙ values.ensures,
     )
 
 pub overflow_add-b : goal.overflow_add-b
-overflow_add-b c = omega (arith, c.loop-b-test.true, (facts c.before.before.before.before.before).2)
+overflow_add-b c = omega (arith, c.loop-b-test.true, (facts (record { before = c.before.before.before.before.before.before; type_inv = record { bytes = c.type_inv.bytes } })).2)
 
 pub loop-b-smaller : goal.loop-b-smaller
 loop-b-smaller c = omega (arith, c.loop-b-test.true)
 
 pub loop-b-preserved : goal.loop-b-preserved
 loop-b-preserved c =
-    let d = c.before.before.before.before.before in
+    let d = c in
     let l = d.loop-b in
-    let t = d.before.before.before.before.before.before in
+    let t = d in
     let f = t.args.format in
     let bs = t.args.bytes.now in
     let size = d.block_bytes-size.result in
@@ -97,7 +98,7 @@ loop-b-preserved c =
     let W : v ≡ block_values f = d.block_values-values.ensures in
     let b = l.b in
     let g = value_in f (take (b * size + size - b * size) (drop (b * size) bs)) in
-    parts_more (weight_at f bs) t.args.out.now (λ k. k * v) (length bs / size) g l.out _ b v d.loop-b-test.true (rw add-one (suc-mul b v)) (facts d).1 (c.decode_block.ensures ∙ ap (table g) (sym W)) (λ i h. placed f bs b i size v S W h) l.invariant
+    parts_more (weight_at f bs) t.args.out.now (λ k. k * v) (length bs / size) g l.out _ b v d.loop-b-test.true (rw add-one (suc-mul b v)) (facts (record { before = c.before.before.before.before.before.before; type_inv = record { bytes = c.type_inv.bytes } })).1 (c.decode_block.ensures ∙ ap (table g) (sym W)) (λ i h. placed f bs b i size v S W h) l.invariant
 
 pub shape_of-out : goal.shape_of-out
 shape_of-out c = c.loop-b.invariant.2
@@ -105,7 +106,7 @@ shape_of-out c = c.loop-b.invariant.2
 pub returns : goal.returns
 returns c =
     let l = c.loop-b in
-    let t = c.before.before.before.before.before.before in
+    let t = c in
     let f = t.args.format in
     let bs = t.args.bytes.now in
     let size = c.block_bytes-size in

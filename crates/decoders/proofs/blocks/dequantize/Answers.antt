@@ -18,5 +18,5 @@ decode_blocks-requires c = room_for_values _ _ _ (check_passed c.dequantize_refu
 pub returns : goal.returns
 unfolding dequantize_says
 returns c =
-    let f = c.before.before.before.before in
+    let f = c in
     ap (λ (left : List Float). (done, left)) c.decode_blocks.ensures ∙ done_out _ _ f.dequantize_refusal-checked.ensures f.in_default.is

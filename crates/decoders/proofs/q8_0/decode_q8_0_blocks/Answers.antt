@@ -8,14 +8,9 @@ use lib.ListN.{length, take, drop}
 use Rattle.memory.proofs.Filled.{part_length}
 use Rattle.memory.proofs.Parts.{parts_none, parts_more, parts_done}
 use Rattle.layouts.specs.Weights.{value_in, weight_at}
-use Rattle.layouts.specs.declared.format.Format.{Format}
-use Rattle.layouts.specs.declared.format.Format.TheVariants.{Of32}
-use Rattle.layouts.specs.declared.format.Format32.TheVariants.{Q80}
 use Rattle.layouts.proofs.Sizes.{placed}
+use Rattle.decoders.proofs.q8_0.decode_q8_0_blocks.Invariants.{q8_0}
 use Rattle.decoders.proofs.q8_0.decode_q8_0_blocks.Goals as goal
-
-abbrev q8_0 : Format
-q8_0 = Of32 Q80
 
 pub loop-b-init : goal.loop-b-init
 loop-b-init c =
@@ -31,9 +26,9 @@ decode_q8_0-requires c =
 
 pub loop-b-preserved : goal.loop-b-preserved
 loop-b-preserved c =
-    let d = c.before.before.before.before.before in
+    let d = c in
     let l = d.loop-b in
-    let t = d.before.before.before.before in
+    let t = d in
     let bs = t.args.bytes.now in
     let b = l.b in
     let inside : b * 32 + 32 ≤ length t.args.out.now = omega arith in

@@ -6,4 +6,4 @@ use Rattle.dots_activation.specs.Blocks.{block_in}
 use Rattle.dots_activation.proofs.block.block_with.Goals as goal
 
 pub returns : goal.returns
-returns c = let a = c.args in ap (λ (s : List ℤ). block_in a.d a.t2 s a.count) c.sums_of-bsums.ensures
+returns c = let a = c.args in ap (λ (s : List ℤ). block_in a.d a.qs s a.count) c.sums_of-bsums.ensures

@@ -6,10 +6,11 @@ use Prim.Native.Nat.{min}
 use native.Mathlib.Omega.{arith}
 use borrow.Author.Tests.{eq-eqb, ne_eqb}
 use Rattle.dots_activation.specs.Blocks.{zeros_past, count_serves}
+use Rattle.dots_activation.proofs.block.count_serves.Goals.{Joined-n-gt256}
 use Rattle.dots_activation.proofs.block.count_serves.Goals as goal
 
 -- the places that are asked for
-held : (c : goal.Joined-n-gt256) → c.if-n-gt256.places ≡ min c.args.n 256
+held : (c : Joined-n-gt256) → c.if-n-gt256.places ≡ min c.args.n 256
 held c = ⊎_elim (λ w. omega arith) (λ w. omega arith) c.if-n-gt256.branch
 
 pub returns-then-places-count : goal.returns-then-places-count
@@ -24,6 +25,6 @@ zeros_past-requires c = omega (arith, held c.before)
 pub returns : goal.returns
 unfolding count_serves
 returns c =
-    let i = c.before in
+    let i = c in
     let a = i.args in
-    c.zeros_past.ensures ∙ ap (λ (t : Bool). cond t (zeros_past a.qs.now a.count) false) (sym (eq-eqb _ _ (sym (held i.before) ∙ i.if-places-count.false)))
+    c.zeros_past.ensures ∙ ap (λ (t : Bool). cond t (zeros_past a.qs.now a.count) false) (sym (eq-eqb _ _ (sym (held c.before.before) ∙ i.if-places-count.false)))

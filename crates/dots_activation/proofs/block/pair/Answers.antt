@@ -4,13 +4,14 @@ use lib.IntN.{ℤ}
 use mir.Syntax.{w8, w16}
 use Rattle.dots_activation.specs.Whole.{elem}
 use Rattle.dots_activation.proofs.Loops.{wide_fits, wide_is, wide_within, sum_fits, sum_made}
+use Rattle.dots_activation.proofs.block.pair.Goals.{Start}
 use Rattle.dots_activation.proofs.block.pair.Goals as goal
 
 -- the two quants
-abbrev low : goal.Start → ℤ
+abbrev low : Start → ℤ
 low c = elem c.args.qs.now c.args.i
 
-abbrev high : goal.Start → ℤ
+abbrev high : Start → ℤ
 high c = elem c.args.qs.now (16 + c.args.i)
 
 pub overflow_cast-result : goal.overflow_cast-result

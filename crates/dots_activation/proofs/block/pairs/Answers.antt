@@ -14,14 +14,14 @@ loop-l-init c = streamed_none (pair_of (elem c.args.qs.now)) 256 (replicate 128 
 
 pub loop-l-preserved : goal.loop-l-preserved
 loop-l-preserved c =
-    let c₇ = c.before in
-    let c₆ = c₇.before in
-    let c₅ = c₆.before in
-    let c₄ = c₅.before in
-    let c₃ = c₄.before in
-    let c₂ = c₃.before in
-    let c₁ = c₂.before in
-    let d = c₁.before.before in
+    let c₇ = c in
+    let c₆ = c₇ in
+    let c₅ = c₆ in
+    let c₄ = c₅ in
+    let c₃ = c₄ in
+    let c₂ = c₃ in
+    let c₁ = c₂ in
+    let d = c₁ in
     let l = d.loop-l.l in
     let q : ℕ → ℤ = elem d.args.qs.now in
     streamed_more (pair_of q) 256 d.loop-l.t l (omega arith)

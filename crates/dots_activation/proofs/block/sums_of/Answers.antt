@@ -23,7 +23,7 @@ overflow_cast-sums c = rw (read_is w16 _ c.sum_of_32.type_inv) (fits_within c.su
 
 pub loop-j-preserved : goal.loop-j-preserved
 loop-j-preserved c =
-    let b = c.before.before.before in
+    let b = c in
     let l = b.loop-j in
     let t = b.pairs-t in
     let qs = b.args.qs.now in

@@ -15,6 +15,7 @@ use Rattle.dots_activation.specs.Blocks.{sum_of_32, sums_right}
 use Rattle.dots_activation.proofs.Magnitudes.{fits_within}
 use Rattle.dots_activation.proofs.Tests.{eq_z_same, eq_z_not}
 use Rattle.dots_activation.proofs.Pairs.{pairs_sum}
+use Rattle.dots_activation.proofs.block.sums_right.Goals.{After-sum_of_32, Else-sum_of_32-bsums}
 use Rattle.dots_activation.proofs.block.sums_right.Goals as goal
 
 pub loop-j-init : goal.loop-j-init
@@ -27,35 +28,35 @@ pub overflow_cast-sum_of_32 : goal.overflow_cast-sum_of_32
 overflow_cast-sum_of_32 c = rw (read_is w16 _ c.sum_of_32.type_inv) (fits_within c.sum_of_32.ensures.1 tt)
 
 -- the turn's sum, as it is compared
-sum_is : (c : goal.After-sum_of_32)
-    → let b = c.before.before.before in
+sum_is : (c : After-sum_of_32)
+    → let b = c in
     to_z w16 (of_z w16 c.sum_of_32.result) ≡ sum_of_32 b.args.qs.now b.loop-j.j
 sum_is c =
-    let b = c.before.before.before in
+    let b = c in
     let t = b.pairs-t in
     read_is w16 _ c.sum_of_32.type_inv ∙ c.sum_of_32.ensures.0 ∙ pairs_sum (elem b.args.qs.now) t.result b.loop-j.j t.ensures.0 (omega arith)
 
 pub returns-then-sum_of_32-bsums : goal.returns-then-sum_of_32-bsums
 unfolding sums_right
 returns-then-sum_of_32-bsums c =
-    let s = c.before.before in
-    (sym (every_not _ 8 s.loop-j.j (omega arith) (eq_z_not _ _ (λ e. c.if-sum_of_32-bsums.true (ap (of_z w32) (sum_is s ∙ e))))), λ e. absurd (false≢true e))
+    let s = c in
+    (sym (every_not _ 8 s.loop-j.j (omega arith) (eq_z_not _ _ (λ e. c.if-sum_of_32-bsums.true (ap (of_z w32) (sum_is c.before.before ∙ e))))), λ e. absurd (false≢true e))
 
 -- the claim is the sum
-claimed : (c : goal.Else-sum_of_32-bsums)
-    → let b = c.before.before.before.before.before in
+claimed : (c : Else-sum_of_32-bsums)
+    → let b = c in
     sum_of_32 b.args.qs.now b.loop-j.j ≡ elem b.args.bsums.now b.loop-j.j
 claimed c =
-    let s = c.before.before in
-    sym (sum_is s) ∙ sym (to_z-of_z w32 _ (overflow_cast-sum_of_32 s)) ∙ ap (to_z w32) c.if-sum_of_32-bsums.false ∙ read_is w32 _ c.t13-1.given
+    let s = c in
+    sym (sum_is c.before.before) ∙ sym (to_z-of_z w32 _ (overflow_cast-sum_of_32 c.before.before)) ∙ ap (to_z w32) c.if-sum_of_32-bsums.false ∙ read_is w32 _ c.t13-1.given
 
 pub loop-j-preserved : goal.loop-j-preserved
 loop-j-preserved c =
-    let s = c.before.before in
+    let s = c in
     let l = s.loop-j in
     let r = s.sum_of_32 in
     let e = claimed c in
-    (omega arith, every_more _ _ l.invariant.1 (rw e (eq_z_same (elem s.args.bsums.now l.j))), below_more _ _ l.invariant.2 (subst (Within 4096) (sym (read_is w16 _ r.type_inv) ∙ sum_is s ∙ e) r.ensures.1))
+    (omega arith, every_more _ _ l.invariant.1 (rw e (eq_z_same (elem s.args.bsums.now l.j))), below_more _ _ l.invariant.2 (subst (Within 4096) (sym (read_is w16 _ r.type_inv) ∙ sum_is c.before.before ∙ e) r.ensures.1))
 
 pub returns : goal.returns
 unfolding sums_right

@@ -20,7 +20,7 @@ loop-i-init c = (omega arith, omega arith, sym (every_all _ _ (below_passes c.ar
 
 pub loop-i-preserved : goal.loop-i-preserved
 loop-i-preserved c =
-    let k = c.before.before.before in
+    let k = c in
     let l = k.loop-i in
     let qs = k.args.qs.now in
     let n = k.args.n in

@@ -19,8 +19,8 @@ nonzero_div-found c = omega (arith, sizes (OfK c.args.format), c.block_bytes-siz
 
 pub overflow_mul-found : goal.overflow_mul-found
 overflow_mul-found c =
-    let b = c.before.before.before in
-    let t = b.before.before.before in
+    let b = c in
+    let t = b in
     record { fits = values_fit t.args.format b.block_bytes-size.result (length t.args.w.now) b.block_bytes-size.ensures (omega arith) }
 
 pub returns-then-n-gt-MOST_IN : goal.returns-then-n-gt-MOST_IN
@@ -49,8 +49,8 @@ returns-then-n-eq0 c =
 pub returns-then-found-n : goal.returns-then-found-n
 unfolding fused_says given
 returns-then-found-n c =
-    let i = c.before.before in
-    let b = i.before.before.before.before in
+    let i = c in
+    let b = i in
     let a = b.args in
     simp (
       sym b.block_bytes-size.ensures,

@@ -14,8 +14,8 @@ quants_q4k-q-requires c = c.requires.1 ∙ ap bytes_k c.in-Q4K.is
 
 pub add_sub_blocks-requires : goal.add_sub_blocks-requires
 add_sub_blocks-requires c =
-    let q = c.before.before in
-    let t = q.before.before.before.before in
+    let q = c in
+    let t = q in
     (omega arith, t.requires.0, omega (arith, t.requires.1 ∙ ap bytes_k q.in-Q4K.is), omega arith)
 
 pub quants_q5k-q-requires : goal.quants_q5k-q-requires
@@ -23,20 +23,20 @@ quants_q5k-q-requires c = c.requires.1 ∙ ap bytes_k c.in-Q5K.is
 
 pub add_sub_blocks-requires-in-Q5K : goal.add_sub_blocks-requires-in-Q5K
 add_sub_blocks-requires-in-Q5K c =
-    let q = c.before.before in
-    let t = q.before.before.before.before in
+    let q = c in
+    let t = q in
     (omega arith, t.requires.0, omega (arith, t.requires.1 ∙ ap bytes_k q.in-Q5K.is), omega arith)
 
 pub quants_q6k-q-requires : goal.quants_q6k-q-requires
 quants_q6k-q-requires c = c.requires.1 ∙ ap bytes_k c.in-Q6K.is
 
 pub add_runs-requires : goal.add_runs-requires
-add_runs-requires c = let t = c.before.before.before.before.before in (t.requires.0, t.requires.1 ∙ ap bytes_k c.in-Q6K.is, omega arith)
+add_runs-requires c = let t = c in (t.requires.0, t.requires.1 ∙ ap bytes_k c.in-Q6K.is, omega arith)
 
 pub returns-in-Q4K : goal.returns-in-Q4K
 returns-in-Q4K c =
-    let q = c.before.before.before.before in
-    let t = q.before.before.before.before in
+    let q = c in
+    let t = q in
     let a = t.args in
     let e = q.in-Q4K.is in
     c.add_sub_blocks.ensures
@@ -44,8 +44,8 @@ returns-in-Q4K c =
 
 pub returns-in-Q5K : goal.returns-in-Q5K
 returns-in-Q5K c =
-    let q = c.before.before.before.before in
-    let t = q.before.before.before.before in
+    let q = c in
+    let t = q in
     let a = t.args in
     let e = q.in-Q5K.is in
     c.add_sub_blocks-in-Q5K.ensures
@@ -53,8 +53,8 @@ returns-in-Q5K c =
 
 pub returns-in-Q6K : goal.returns-in-Q6K
 returns-in-Q6K c =
-    let q = c.before.before in
-    let t = q.before.before.before.before in
+    let q = c in
+    let t = q in
     let a = t.args in
     let e = q.in-Q6K.is in
     c.add_runs.ensures

@@ -7,7 +7,7 @@ use Rattle.dots_fused_block.proofs.runs.add_run.Goals as goal
 
 pub returns : goal.returns
 returns c =
-    let f = c.before.before.before in
+    let f = c in
     let a = f.args in
     let p = run_terms a.x.now a.q.now a.d in
     let half = run_more a.l a.l f.eight_terms-half.result p _ 0 8 8 refl refl (λ i h. run_part a.x.now a.q.now a.d 0 8 i h) f.eight_terms-half.ensures (lanes_none a.l p) in

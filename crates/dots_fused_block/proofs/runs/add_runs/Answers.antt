@@ -1,26 +1,21 @@
 -- `runs::add_runs` meets its contract: in turn e the terms of run e are added. Assumes nothing.
-use Prim.Native.Nat.{ℕ, ◌+◌, ◌-◌, ◌*◌}
-use mathlib.Core.List.{List}
-use lib.IntN.{ℤ, pos}
-use lib.ListN.{get_or}
+use Prim.Native.Nat.{◌+◌, ◌-◌, ◌*◌}
 use Rattle.sums_lanes.proofs.LaneLaws.{lanes_none}
 use Rattle.layouts.specs.declared.format.FormatK.TheVariants.{Q6K}
 use Rattle.dots_fused_block.specs.Inner.{block_terms}
 use Rattle.dots_fused_block.proofs.Grown.{grown_more, grown_done, run_terms_lem}
 use native.Mathlib.Omega.{arith}
+use Rattle.dots_fused_block.proofs.runs.add_runs.Invariants.{wholes}
 use Rattle.dots_fused_block.proofs.runs.add_runs.Goals as goal
-
-abbrev wholes : List ℤ → ℕ → ℤ
-wholes q i = get_or q i (pos 0)
 
 pub loop-e-init : goal.loop-e-init
 loop-e-init c = (omega arith, lanes_none _ _)
 
 pub loop-e-preserved : goal.loop-e-preserved
 loop-e-preserved c =
-    let b = c.before.before.before.before in
+    let b = c in
     let s = b.scales_q6k-scales in
-    let t = b.before.before.before.before in
+    let t = b in
     let a = t.args in
     let e = b.loop-e.e in
     grown_more a.l b.loop-e.out _ (block_terms Q6K a.x.now a.block.now (wholes a.q.now)) _ 16 16 e (omega arith) (omega arith) (omega arith)
@@ -28,6 +23,6 @@ loop-e-preserved c =
 
 pub returns : goal.returns
 returns c =
-    let b = c.before in
+    let b = c in
     let a = b.args in
     grown_done a.l b.loop-e.out (block_terms Q6K a.x.now a.block.now (wholes a.q.now)) 16 16 b.loop-e.e (omega arith) b.loop-e.invariant

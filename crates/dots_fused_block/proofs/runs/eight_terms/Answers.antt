@@ -15,7 +15,7 @@ loop-i-init c = let a = c.args in adding_start a.l (run_terms a.x.now a.q.now a.
 
 pub loop-i-preserved : goal.loop-i-preserved
 loop-i-preserved c =
-    let b = c.before.before.before.before in
+    let b = c in
     let a = b.args in
     let out = b.loop-i.out in
     let i = b.loop-i.i in
@@ -25,6 +25,6 @@ loop-i-preserved c =
 
 pub returns : goal.returns
 returns c =
-    let b = c.before in
+    let b = c in
     let a = b.args in
     adding_done a.l (run_terms a.x.now a.q.now a.d) 8 b.loop-i.out b.loop-i.i (omega arith) b.loop-i.invariant

@@ -12,7 +12,7 @@ loop-e-init c = (c.requires.0, (omega arith, lanes_none _ _))
 
 pub loop-e-preserved : goal.loop-e-preserved
 loop-e-preserved c =
-    let b = c.before.before.before.before.before.before.before in
+    let b = c in
     let a = b.args in
     let e = b.loop-e.e in (
       omega arith,
@@ -25,6 +25,6 @@ shape_of-l c = c.loop-e.invariant.0 ∙ sym c.requires.0
 
 pub returns : goal.returns
 returns c =
-    let b = c.before in
+    let b = c in
     let a = b.args in
     grown_done a.l.now b.loop-e.l (sub_block_terms a.x.now a.q.now a.d a.m) 8 4 b.loop-e.e (omega arith) b.loop-e.invariant.1

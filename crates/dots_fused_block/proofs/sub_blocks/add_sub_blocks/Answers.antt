@@ -1,26 +1,22 @@
 -- `sub_blocks::add_sub_blocks` meets its contract: in turn j the terms of sub-block j are added. Assumes nothing.
 use mathlib.Core.Path.{refl, sym, ◌∙◌}
-use Prim.Native.Nat.{ℕ, ◌+◌, ◌-◌, ◌/◌}
-use mathlib.Core.List.{List}
-use lib.IntN.{ℤ, pos}
-use lib.ListN.{length, get_or}
+use Prim.Native.Nat.{◌+◌, ◌-◌, ◌/◌}
+use lib.ListN.{length}
 use Rattle.layouts.specs.declared.format.FormatK.TheVariants.{Q4K}
 use Rattle.sums_lanes.proofs.LaneLaws.{lanes_none}
 use Rattle.dots_fused_block.specs.Inner.{block_terms}
 use Rattle.dots_fused_block.proofs.Grown.{grown_more, grown_done, sub_block_terms_lem}
 use native.Mathlib.Omega.{arith}
+use Rattle.dots_fused_block.proofs.sub_blocks.add_sub_blocks.Invariants.{wholes}
 use Rattle.dots_fused_block.proofs.sub_blocks.add_sub_blocks.Goals as goal
-
-abbrev wholes : List ℕ → ℕ → ℤ
-wholes q i = pos (get_or q i 0)
 
 pub loop-j-init : goal.loop-j-init
 loop-j-init c = (refl, c.requires.0, (omega arith, lanes_none _ _))
 
 pub loop-j-preserved : goal.loop-j-preserved
 loop-j-preserved c =
-    let d = c.before.before in
-    let b = d.before.before.before.before.before in
+    let d = c in
+    let b = d in
     let s = b.scales_and_minimums-both in
     let a = b.args in
     let at = b.loop-j.at in
@@ -36,6 +32,6 @@ shape_of-l c = c.loop-j.invariant.1 ∙ sym c.requires.0
 
 pub returns : goal.returns
 returns c =
-    let b = c.before in
+    let b = c in
     let a = b.args in
     grown_done a.l.now b.loop-j.l (block_terms Q4K a.x.now a.block.now (wholes a.q.now)) 32 8 b.loop-j.j (omega arith) b.loop-j.invariant.2

@@ -11,7 +11,7 @@ loop-i-init c = let a = c.args in adding_start a.l.now (sub_block_terms a.x.now 
 
 pub loop-i-preserved : goal.loop-i-preserved
 loop-i-preserved c =
-    let b = c.before.before.before.before.before in
+    let b = c in
     let a = b.args in
     adding_more a.l.now (sub_block_terms a.x.now a.q.now a.d a.m) 8 b.loop-i.l b.loop-i.i (omega arith) (omega arith) b.loop-i.invariant
 
@@ -20,6 +20,6 @@ shape_of-l c = c.loop-i.invariant.1 ∙ sym c.requires.0
 
 pub returns : goal.returns
 returns c =
-    let b = c.before in
+    let b = c in
     let a = b.args in
     adding_done a.l.now (sub_block_terms a.x.now a.q.now a.d a.m) 8 b.loop-i.l b.loop-i.i (omega arith) b.loop-i.invariant

@@ -7,6 +7,7 @@ use Rattle.dots_fused_block.specs.Terms.{terms}
 use Rattle.dots_fused_chunk.proofs.Rows.{block_room, block_terms}
 use Rattle.dots_fused_block.proofs.Grown.{run_more}
 use native.Mathlib.Omega.{arith}
+use Rattle.dots_fused_chunk.proofs.chunk.all_blocks.Goals.{After-block_bytes-size}
 use Rattle.dots_fused_chunk.proofs.chunk.all_blocks.Goals as goal
 
 pub returns-then-n-eq0 : goal.returns-then-n-eq0
@@ -16,10 +17,10 @@ returns-then-n-eq0 c =
     c.whole_blocks-l.ensures ∙ ap (lanes (terms a.format a.x.now a.w.now)) e
 
 -- the last block lies within the bytes
-room : (c : goal.After-block_bytes-size)
+room : (c : After-block_bytes-size)
     → length c.args.x.now / 256 * c.block_bytes-size.result + c.block_bytes-size.result ≤ length c.args.w.now
 room c =
-    let t = c.before.before.before.before.before in
+    let t = c in
     let n = length t.args.x.now in
     block_room t.args.format (n / 256) c.block_bytes-size.result n (length t.args.w.now) c.block_bytes-size.ensures t.requires (omega arith)
 
@@ -30,12 +31,12 @@ pub overflow_add-to : goal.overflow_add-to
 overflow_add-to c = omega (arith, room c)
 
 pub slice_bounds-add_short-end-2 : goal.slice_bounds-add_short-end-2
-slice_bounds-add_short-end-2 c = omega (arith, room c.before)
+slice_bounds-add_short-end-2 c = omega (arith, room (record { before = c.before.before; type_inv = record { w = c.type_inv.w; x = c.type_inv.x } }))
 
 pub returns : goal.returns
 unfolding lanes
 returns c =
-    let d = c.before.before.before in
+    let d = c in
     let size = d.block_bytes-size in
     let l = d.whole_blocks-l in
     let a = d.args in

@@ -12,15 +12,16 @@ use Rattle.sums.proofs.RowLaws.{chunk_part}
 use Rattle.dots_fused_block.specs.Terms.{terms}
 use Rattle.dots_fused_chunk.proofs.Rows.{rest_room, rest_terms}
 use native.Mathlib.Omega.{arith}
+use Rattle.dots_fused_chunk.proofs.chunk.chunk_dot.Goals.{After-block_bytes}
 use Rattle.dots_fused_chunk.proofs.chunk.chunk_dot.Goals as goal
 
 -- what the row has left from the chunk's first block on lies within the bytes from there on
-room : (c : goal.After-block_bytes)
-    → (let t = c.before.before.before.before in
+room : (c : After-block_bytes)
+    → (let t = c in
     let from = 8192 * t.args.c / 256 * c.block_bytes.result in
     (from ≤ length t.args.w.now) × (t.args.n - 8192 * t.args.c ≤ values_of (OfK t.args.format) (length t.args.w.now - from)))
 room c =
-    let t = c.before.before.before.before in
+    let t = c in
     let a = t.args in
     rest_room a.format (8192 * a.c / 256) c.block_bytes.result a.n (a.n - 8192 * a.c) (length a.w.now) c.block_bytes.ensures t.requires.2 (omega arith)
 
@@ -28,23 +29,23 @@ pub overflow_mul-from : goal.overflow_mul-from
 overflow_mul-from c = omega (arith, room c)
 
 pub slice_bounds-all_blocks-count-2 : goal.slice_bounds-all_blocks-count-2
-slice_bounds-all_blocks-count-2 c = omega (arith, room c.before)
+slice_bounds-all_blocks-count-2 c = omega (arith, room (record { before = c.before.before; type_inv = record { w = c.type_inv.w; x = c.type_inv.x } }))
 
 pub slice_bounds-all_blocks-start-2 : goal.slice_bounds-all_blocks-start-2
-slice_bounds-all_blocks-start-2 c = omega (arith, room c.before)
+slice_bounds-all_blocks-start-2 c = omega (arith, room (record { before = c.before.before; type_inv = record { w = c.type_inv.w; x = c.type_inv.x } }))
 
 pub all_blocks-requires : goal.all_blocks-requires
 all_blocks-requires c =
-    let d = c.before.before in
-    let t = d.before.before.before.before in
+    let d = c in
+    let t = d in
     let from = 8192 * t.args.c / 256 * d.block_bytes.result in
-    let r = room d in
+    let r = room (record { before = c.before.before.before; type_inv = record { w = c.type_inv.w; x = c.type_inv.x } }) in
     rw (part_length t.args.w.now from (length t.args.w.now - from) (length t.args.w.now) (omega arith) (le_refl _)) (omega (arith, r.1))
 
 pub returns : goal.returns
 unfolding chunk_sum
 returns c =
-    let d = c.before.before.before.before in
+    let d = c in
     let a = d.args in
     let s = 8192 * a.c in
     let e = d.chunk_end-e.result in

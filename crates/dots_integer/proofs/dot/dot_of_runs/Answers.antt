@@ -7,6 +7,6 @@ use Rattle.dots_integer.proofs.dot.dot_of_runs.Goals as goal
 
 pub returns : goal.returns
 returns c =
-    let b = c.before in
-    let h = b.before in
+    let b = c in
+    let h = b in
     scaled_is h.args.d h.half_at.ensures c.whole_to_f32.ensures (read_is w32 _ b.sum_by_runs.type_inv ∙ b.sum_by_runs.ensures)

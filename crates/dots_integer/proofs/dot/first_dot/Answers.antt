@@ -4,7 +4,7 @@ use mathlib.Core.Bool.{false}
 use Prim.Native.Nat.{ℕ}
 use native.Mathlib.Omega.{arith}
 use borrow.Author.Rules.{rules}
-use borrow.Author.Tests.{lt-ltb, le-ltb, not-false}
+use borrow.Author.Tests.{lt-ltb, le-ltb}
 use lib.Dec.{ltb}
 use lib.ListN.{length, take}
 use lib.Seq.{length-take-le}
@@ -13,51 +13,52 @@ use Rattle.refusals.proofs.Laws.{given_yes, given_no}
 use Rattle.layouts.specs.Formats.{bytes_k}
 use Rattle.dots_integer.specs.Dots.{block_dot, block_dot_says}
 use Rattle.dots_integer.proofs.Dots.{served_below}
+use Rattle.dots_integer.proofs.dot.first_dot.Goals.{Else-w-size}
 use Rattle.dots_integer.proofs.dot.first_dot.Goals as goal
 
 pub returns-then-w-size : goal.returns-then-w-size
 unfolding block_dot_says
 returns-then-w-size c =
-    let i = c.before in
+    let i = c in
     ap refused c.weights_short.ensures ∙ sym (given_yes _ _ _ (lt-ltb _ _ (rw i.block_bytes-size.ensures at i.if-w-size.true)))
 
 -- the weights are enough
-enough : (c : goal.Else-w-size) → (let a = c.args in ltb (length a.w.now) (bytes_k a.format) ≡ false)
+enough : (c : Else-w-size) → (let a = c.args in ltb (length a.w.now) (bytes_k a.format) ≡ false)
 enough c = le-ltb _ _ (rw c.block_bytes-size.ensures at c.if-w-size.false)
 
 pub returns-then-not-count_serves : goal.returns-then-not-count_serves
 unfolding block_dot_says
-returns-then-not-count_serves c = sym (given_no _ _ _ (enough c.before.before) ∙ given_yes _ _ _ (rw c.count_serves.ensures at c.if-not-count_serves.true-raw))
+returns-then-not-count_serves c = sym (given_no _ _ _ (enough (record { before = c.before.before.before; type_inv = record { w = c.type_inv.w } })) ∙ given_yes _ _ _ (rw c.count_serves.ensures at c.if-not-count_serves.true-raw))
 
 pub returns-then-not-sums_serve : goal.returns-then-not-sums_serve
 unfolding block_dot_says
 returns-then-not-sums_serve c =
-    let k = c.before.before in
-    sym (given_no _ _ _ (enough k.before.before) ∙ given_no _ _ _ (rw k.count_serves.ensures at k.if-not-count_serves.false-raw) ∙ given_yes _ _ _ (rw c.sums_serve.ensures.0 at c.if-not-sums_serve.true-raw))
+    let k = c in
+    sym (given_no _ _ _ (enough (record { before = c.before.before.before.before.before; type_inv = record { w = c.type_inv.w } })) ∙ given_no _ _ _ (rw k.count_serves.ensures at k.if-not-count_serves.false-raw) ∙ given_yes _ _ _ (rw c.sums_serve.ensures.0 at c.if-not-sums_serve.true-raw))
 
 pub slice_bounds-block_dot-end : goal.slice_bounds-block_dot-end
 slice_bounds-block_dot-end c =
-    let b = c.before.before.before.before.before.before in
+    let b = c in
     sym (length-take-le b.block_bytes-size.result b.args.w.now (omega arith))
 
 pub block_dot-requires : goal.block_dot-requires
 block_dot-requires c =
-    let i = c.before.before.before in
+    let i = c in
     let r = i.sums_serve in
-    let b = i.before.before.before.before.before in
+    let b = i in
     let size = b.block_bytes-size in
-    (length-take-le size.result b.args.w.now (omega arith) ∙ size.ensures, search rules, search rules, r.ensures.1 (not-false r.result i.if-not-sums_serve.false-raw))
+    (length-take-le size.result b.args.w.now (omega arith) ∙ size.ensures, search rules, search rules, r.ensures.1 (i.if-not-sums_serve.false))
 
 pub returns : goal.returns
 unfolding block_dot_says
 returns c =
-    let i = c.before.before.before.before in
-    let k = i.before.before in
+    let i = c in
+    let k = i in
     let s = k.count_serves in
-    let e = k.before.before in
-    let b = e.before in
+    let e = k in
+    let b = e in
     let a = b.args in
     ap value (c.block_dot.ensures
     ∙ ap (λ (m : ℕ). block_dot a.format (take m a.w.now) a.d a.qs.now a.sums.now 256) b.block_bytes-size.ensures
-    ∙ served_below a.format (take (bytes_k a.format) a.w.now) a.d a.qs.now a.sums.now a.count a.n (sym s.ensures ∙ not-false s.result k.if-not-count_serves.false-raw))
-    ∙ sym (given_no _ _ _ (enough e) ∙ given_no _ _ _ (rw s.ensures at k.if-not-count_serves.false-raw) ∙ given_no _ _ _ (rw i.sums_serve.ensures.0 at i.if-not-sums_serve.false-raw))
+    ∙ served_below a.format (take (bytes_k a.format) a.w.now) a.d a.qs.now a.sums.now a.count a.n (sym s.ensures ∙ k.if-not-count_serves.false))
+    ∙ sym (given_no _ _ _ (enough (record { before = c.before.before.before.before.before.before.before.before.before; type_inv = record { w = c.type_inv.w } })) ∙ given_no _ _ _ (rw s.ensures at k.if-not-count_serves.false-raw) ∙ given_no _ _ _ (rw i.sums_serve.ensures.0 at i.if-not-sums_serve.false-raw))

@@ -29,7 +29,7 @@ returns-then-n-eq0 c =
 
 pub overflow_mul-needed : goal.overflow_mul-needed
 overflow_mul-needed c =
-    let b = c.before.before.before.before in
+    let b = c in
     let few : c.blocks_in-needed.result ≤ 512 = omega (arith, c.blocks_in-needed.ensures) in
     let small : b.block_bytes-size.result ≤ 210 = rw b.block_bytes-size.ensures (sizes (OfK b.args.format)).1 in
     omega (arith, mul-le-mul few small)
@@ -37,7 +37,7 @@ overflow_mul-needed c =
 pub returns-then-w-needed : goal.returns-then-w-needed
 unfolding integer_says given
 returns-then-w-needed c =
-    let i = c.before in
+    let i = c in
     simp (sym i.block_bytes-size.ensures, sym i.blocks_in-needed.ensures, le-ltb _ _ i.if-n-gt-MOST_IN.false, eq-eqb _ _ i.if-w-size-ne0.false, ne_eqb _ _ i.if-n-eq0.false, lt-ltb _ _ i.if-w-needed.true, c.weights_short.ensures)
 
 pub returns-then-x-n : goal.returns-then-x-n
@@ -47,7 +47,7 @@ returns-then-x-n c =
 
 pub integer_row-requires : goal.integer_row-requires
 integer_row-requires c =
-    let d = c.before.before in
+    let d = c in
     (omega arith, omega arith, rw (d.blocks_in-needed.ensures, d.block_bytes-size.ensures) at c.if-w-needed.false)
 
 pub returns : goal.returns

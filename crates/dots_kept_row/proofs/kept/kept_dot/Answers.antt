@@ -9,7 +9,7 @@ use Rattle.dots_kept_row.proofs.kept.kept_dot.Goals as goal
 
 pub block_dot-requires : goal.block_dot-requires
 block_dot-requires c =
-    let s = c.before.before.before.before.before in
+    let s = c in
     let a = s.args in
     let from = 256 * a.t in
     let at = 8 * a.t in (

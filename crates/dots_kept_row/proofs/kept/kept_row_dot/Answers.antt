@@ -12,19 +12,20 @@ use Rattle.dots_kept_row.specs.Inner.{dot_kept, kept_dot}
 use Rattle.dots_kept_row.proofs.Meets.{table_meets}
 use Rattle.dots_kept_row.proofs.Blocks.{kept_less}
 use native.Mathlib.Omega.{arith}
+use Rattle.dots_kept_row.proofs.kept.kept_row_dot.Goals.{In-loop-t}
 use Rattle.dots_kept_row.proofs.kept.kept_row_dot.Goals as goal
 
 pub loop-t-init : goal.loop-t-init
 loop-t-init c = filling_start _ _ _ refl
 
 -- block t lies within the row
-facts : (c : goal.In-loop-t)
+facts : (c : In-loop-t)
     → (let size = c.block_bytes-size.result in
     let a = c.args in
     (c.loop-t.t * size + size ≤ length a.w.now) × (size ≤ 210) × (c.loop-t.t < 512))
 facts c =
     let r = c.block_bytes-size in
-    let s = c.before.before.before.before.before.before in
+    let s = c in
     let small : r.result ≤ 210 = rw r.ensures (sizes (OfK s.args.format)).1 in
     let room : length s.args.dots.now * r.result ≤ length s.args.w.now = rw r.ensures s.requires.1 in
     (within c.loop-t.t r.result (length s.args.dots.now) (length s.args.w.now) c.loop-t-test.true room, small, omega (arith, c.loop-t-test.true, s.requires.0))
@@ -46,16 +47,16 @@ slice_bounds-kept_dot-end c = omega (arith, facts c)
 
 pub kept_dot-requires : goal.kept_dot-requires
 kept_dot-requires c =
-    let d = c.before in
+    let d = c in
     let r = d.block_bytes-size in
-    let s = d.before.before.before.before.before.before in
+    let s = d in
     let t = d.loop-t.t in
     let size = r.result in
-    (part_length s.args.w.now (t * size) size (t * size + size) refl (facts d).0 ∙ r.ensures, (facts d).2, kept_less _ (t + 1) _ _ _ (omega (arith, d.loop-t-test.true)) s.requires.2)
+    (part_length s.args.w.now (t * size) size (t * size + size) refl (facts (record { before = c.before.before; type_inv = record { ds = c.type_inv.ds; w = c.type_inv.w } })).0 ∙ r.ensures, (facts (record { before = c.before.before; type_inv = record { ds = c.type_inv.ds; w = c.type_inv.w } })).2, kept_less _ (t + 1) _ _ _ (omega (arith, d.loop-t-test.true)) s.requires.2)
 
 pub loop-t-preserved : goal.loop-t-preserved
 loop-t-preserved c =
-    let d = c.before.before in
+    let d = c in
     let r = d.block_bytes-size in
     let a = d.args in
     let l = d.loop-t in
@@ -64,13 +65,13 @@ loop-t-preserved c =
 
 pub shape_of-dots : goal.shape_of-dots
 shape_of-dots c =
-    let m = c.before.before in
+    let m = c in
     m.meet.auto.dots ∙ m.loop-t.invariant.2
 
 pub returns : goal.returns
 returns c =
-    let m = c.before.before in
-    let d = m.before.before in
+    let m = c in
+    let d = m in
     let a = d.args in
     let l = d.loop-t in
     let f = kept_dot a.format a.w.now a.ds.now a.qs.now a.sums.now in

@@ -15,7 +15,7 @@ loop-i-init c = filling_start _ _ _ refl
 pub loop-i-preserved : goal.loop-i-preserved
 loop-i-preserved c =
     let l = c.loop-i in
-    let t = c.before.before.before in
+    let t = c in
     filling_more (λ (k : ℕ). get_or t.args.quants.now k (pos 0)) t.args.out.now (length t.args.out.now) l.out l.i _ refl l.invariant (omega arith) (read_is w8 _ c.out-1.given)
 
 pub shape_of-out : goal.shape_of-out
@@ -24,5 +24,5 @@ shape_of-out c = c.loop-i.invariant.2
 pub returns : goal.returns
 returns c =
     let l = c.loop-i in
-    let t = c.before.before in
+    let t = c in
     filling_done (λ (k : ℕ). get_or t.args.quants.now k (pos 0)) t.args.out.now (length t.args.out.now) l.out l.i refl l.invariant (omega arith) ∙ table_of t.args.quants.now (length t.args.out.now) (pos 0) t.requires

@@ -11,8 +11,8 @@ use Rattle.dots_kept_row.proofs.meeting.meet.Goals as goal
 
 pub returns-in-Tree : goal.returns-in-Tree
 returns-in-Tree c =
-    let k = c.before.before in
-    let e = k.before.before in
+    let k = c in
+    let e = k in
     let l = e.args.dots.now in
     ap (λ (q : Float × List Float). q.0) k.canonical_combine.ensures ∙ tree_meets l ∙ ap (λ (m : Meeting). meets m (values l) (length l)) (sym e.in-Tree.is)
 

@@ -17,6 +17,7 @@ use Rattle.dots_activation.proofs.Ranges.{sum_more}
 use Rattle.dots_activation.proofs.Loops.{both_fit, both_are}
 use Rattle.dots_whole.specs.Inner.{lane_term, lane_at}
 use Rattle.dots_whole.proofs.Lanes.{lane_within}
+use Rattle.dots_whole.proofs.whole.lanes_of.Goals.{After-lanes-1, At-loop-j, At-loop-l}
 use Rattle.dots_whole.proofs.whole.lanes_of.Goals as goal
 
 pub loop-j-init : goal.loop-j-init
@@ -24,11 +25,11 @@ unfolding sum_ℤ table
 loop-j-init c = (omega arith, refl, below_none _)
 
 -- as many lanes as before
-long : (c : goal.At-loop-j) → length c.loop-j.lanes ≡ 8
+long : (c : At-loop-j) → length c.loop-j.lanes ≡ 8
 long c = ap length c.loop-j.invariant.1 ∙ length_table _ 8
 
 pub loop-l-init : goal.loop-l-init
-loop-l-init c = filling_start _ _ 8 (long c.before.before)
+loop-l-init c = filling_start _ _ 8 (long (record { before = c.before.before.before; type_inv = record { w = c.type_inv.w } }))
 
 element_copy_out_weighed_pairs :
     goal.bounds-p-low decreases-loop
@@ -40,7 +41,7 @@ element_copy_out_weighed_pairs_2 c = omega arith
 
 pub weighed_pairs-requires : goal.weighed_pairs-requires
 weighed_pairs-requires c =
-    let s = c.before.before.before.before in
+    let s = c in
     let n = s.requires.1.near in (
       s.scale_q4k-scale.ensures.1,
       subst (Within 7936) (sym (read_is w16 _ c.weighed_pairs-arg-1.given)) (n _ (omega arith)),
@@ -48,11 +49,11 @@ weighed_pairs-requires c =
     )
 
 -- lane l, to which sub-block j comes
-module _ (c : goal.After-lanes-1) where
-  abbrev in_lane : goal.At-loop-l
-  in_lane = c.before.before.before.before.before
+module _ (c : After-lanes-1) where
+  abbrev in_lane : At-loop-l
+  in_lane = (record { before = c.before.before.before.before.before.before; type_inv = record { w = c.type_inv.w } })
 
-  abbrev at_block : goal.At-loop-j
+  abbrev at_block : At-loop-j
   at_block = in_lane.before.before.before
 
   abbrev w : List ℕ
@@ -100,14 +101,14 @@ loop-l-preserved c =
 
 pub loop-j-preserved : goal.loop-j-preserved
 loop-j-preserved c =
-    let d = c.before in
+    let d = c in
     let s = d.scale_q4k-scale in
-    let o = d.before.before.before in
-    (omega arith, filling_done _ _ 8 d.loop-l.lanes d.loop-l.l (long o) d.loop-l.invariant (omega arith), below_more _ _ o.loop-j.invariant.2 (subst (λ (n : ℕ). n < 64) s.ensures.0 s.ensures.1))
+    let o = d in
+    (omega arith, filling_done _ _ 8 d.loop-l.lanes d.loop-l.l (long (record { before = c.before.before.before.before.before; type_inv = record { w = c.type_inv.w } })) d.loop-l.invariant (omega arith), below_more _ _ o.loop-j.invariant.2 (subst (λ (n : ℕ). n < 64) s.ensures.0 s.ensures.1))
 
 pub returns : goal.returns
 returns c =
-    let o = c.before in
+    let o = c in
     let a = o.args in
     let w = a.w.now in
     let p = a.p.now in

@@ -10,6 +10,7 @@ use Rattle.layouts.specs.K.{minimum_q4k}
 use Rattle.dots_activation.specs.Whole.{elem}
 use Rattle.dots_activation.proofs.Magnitudes.{within}
 use Rattle.dots_activation.proofs.Loops.{acc_none, acc_all, call_fits, call_more}
+use Rattle.dots_whole.proofs.whole.minimum_sum.Goals.{After-weighed-m}
 use Rattle.dots_whole.proofs.whole.minimum_sum.Goals as goal
 
 pub loop-j-init : goal.loop-j-init
@@ -20,16 +21,16 @@ overflow_cast-minimum_q4k c = record { sfits = omega (arith, c.minimum_q4k.ensur
 
 pub weighed-m-requires : goal.weighed-m-requires
 weighed-m-requires c =
-    let b = c.before.before.before in
+    let b = c in
     rw (read_is w32 _ c.weighed-arg-1.given) (within (b.requires.2.near b.loop-j.j (omega arith)) (omega arith))
 
 -- the turn's product
-turn : (c : goal.After-weighed-m)
-    → let b = c.before.before.before.before in
+turn : (c : After-weighed-m)
+    → let b = c in
     let a = b.args in
     c.weighed-m.result ≡ pos (minimum_q4k a.w.now b.loop-j.j) *ℤ elem a.sums.now b.loop-j.j
 turn c =
-    let b = c.before.before.before.before in
+    let b = c in
     let a = b.args in
     let m = c.minimum_q4k in
     (rw (read_is w32 _ c.weighed-arg-1.given, to_z_pos w8 m.result (omega (arith, m.ensures.1))) at c.weighed-m.ensures.0)

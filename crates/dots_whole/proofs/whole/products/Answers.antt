@@ -14,19 +14,16 @@ use Rattle.dots_activation.specs.Whole.{elem, Within}
 use Rattle.dots_activation.specs.Inner.{pair_of}
 use Rattle.dots_whole.specs.Inner.{product_at}
 use Rattle.dots_whole.proofs.Lent.{lent_length, five_bits_lent, pairs_lent}
+use Rattle.dots_whole.proofs.whole.products.Invariants.{Near}
 use Rattle.dots_whole.proofs.whole.products.Goals as goal
-
--- the pairs of the parts before g are within 7936
-abbrev Near : (ℕ → ℤ) → ℕ → Type 0
-Near f g = (k : ℕ) → k < g → (i : ℕ) → i < 32 → Within 7936 (f (32 * k + i))
 
 pub loop-g-init : goal.loop-g-init
 loop-g-init c = (parts_none (pair_of (product_at c.args.q.now c.args.x.now)) (replicate 128 (pos 0)) (λ k. 32 * k) 4 refl, below_none _)
 
 pub two_sub_blocks-requires : goal.two_sub_blocks-requires
 two_sub_blocks-requires c =
-    let d = c.before.before.before.before in
-    let t = d.before.before in
+    let d = c in
+    let t = d in
     let g = d.loop-g.g in
     let h : g < 4 = omega arith in
     let q = t.requires.1 in
@@ -35,7 +32,7 @@ two_sub_blocks-requires c =
 pub loop-g-preserved : goal.loop-g-preserved
 loop-g-preserved c =
     let r = c.two_sub_blocks.ensures in
-    let d = c.before.before.before.before.before.before in
+    let d = c in
     let a = d.args in
     let g = d.loop-g.g in
     let f : ℕ → ℤ = pair_of (product_at a.q.now a.x.now) in

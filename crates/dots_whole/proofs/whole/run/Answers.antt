@@ -8,13 +8,14 @@ use Rattle.numbers.proofs.Signed.{read_is}
 use Rattle.dots_activation.specs.Whole.{elem}
 use Rattle.dots_activation.proofs.Magnitudes.{within}
 use Rattle.dots_activation.proofs.Loops.{acc_none, acc_all, call_fits, call_more}
+use Rattle.dots_whole.proofs.whole.run.Goals.{After-product-s}
 use Rattle.dots_whole.proofs.whole.run.Goals as goal
 
 pub loop-l-init : goal.loop-l-init
 loop-l-init c = (omega arith, acc_none w32 _ 16384)
 
 -- the turn's product
-turn : (c : goal.After-product-s)
+turn : (c : After-product-s)
     → let a = c.args in
     let i = 16 * a.e + c.loop-l.l in
     c.product-s.result ≡ elem a.q.now i *ℤ elem a.x.now i

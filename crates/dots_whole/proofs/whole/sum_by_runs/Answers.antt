@@ -10,6 +10,7 @@ use Rattle.layouts.specs.declared.format.FormatK.TheVariants.{Q6K}
 use Rattle.dots_activation.specs.Whole.{elem}
 use Rattle.dots_activation.proofs.Loops.{acc_none, acc_all, call_fits, call_more}
 use Rattle.dots_whole.proofs.Runs.{stretch_weighs, stretch_is, stretches_are}
+use Rattle.dots_whole.proofs.whole.sum_by_runs.Goals.{After-weighed-a}
 use Rattle.dots_whole.proofs.whole.sum_by_runs.Goals as goal
 
 pub loop-e-init : goal.loop-e-init
@@ -19,13 +20,13 @@ pub weighed-a-requires : goal.weighed-a-requires
 weighed-a-requires c = rw (read_is w32 _ c.run.type_inv) c.run.ensures.1
 
 -- the turn's run
-turn : (c : goal.After-weighed-a)
-    → let b = c.before.before.before.before.before in
+turn : (c : After-weighed-a)
+    → let b = c in
     let a = b.args in
     c.weighed-a.result ≡ stretch_weighs Q6K a.w.now (elem a.q.now) a.x.now 16 b.loop-e.e
 unfolding scale_q6k
 turn c =
-    let b = c.before.before.before.before.before in
+    let b = c in
     let a = b.args in
     let s = c.signed_byte in
     let r = c.run in

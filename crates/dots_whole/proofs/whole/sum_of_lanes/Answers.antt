@@ -10,10 +10,10 @@ pub loop-l-init : goal.loop-l-init
 loop-l-init c = (omega arith, acc_none w32 _ 7999488)
 
 pub overflow_add-a : goal.overflow_add-a
-overflow_add-a c = let b = c.before.before in acc_fits 8 b.loop-l.invariant.1 (read_is w32 _ c.a-1.given) (b.requires.near _ (omega arith)) (omega arith) tt
+overflow_add-a c = let b = c in acc_fits 8 b.loop-l.invariant.1 (read_is w32 _ c.a-1.given) (b.requires.near _ (omega arith)) (omega arith) tt
 
 pub loop-l-preserved : goal.loop-l-preserved
-loop-l-preserved c = let b = c.before.before in (omega arith, acc_more 8 b.loop-l.invariant.1 (read_is w32 _ c.a-1.given) (b.requires.near _ (omega arith)) (omega arith) tt)
+loop-l-preserved c = let b = c in (omega arith, acc_more 8 b.loop-l.invariant.1 (read_is w32 _ c.a-1.given) (b.requires.near _ (omega arith)) (omega arith) tt)
 
 pub returns : goal.returns
 returns c = (acc_all 8 c.loop-l.invariant.1 (omega arith)).0

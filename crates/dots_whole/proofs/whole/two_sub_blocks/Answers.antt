@@ -12,15 +12,12 @@ use Rattle.dots_activation.specs.Whole.{Within}
 use Rattle.dots_activation.specs.Inner.{pair_of}
 use Rattle.dots_activation.proofs.Sixteen.{pair_stored}
 use Rattle.dots_whole.specs.Inner.{product_at}
+use Rattle.dots_whole.proofs.whole.two_sub_blocks.Invariants.{Near}
 use Rattle.dots_whole.proofs.whole.two_sub_blocks.Goals as goal
-
--- what the turns before l put at both of their places is within 7936
-abbrev Near : (ℕ → ℤ) → ℕ → Type 0
-Near f l = (k : ℕ) → k < l → Within 7936 (f k) × Within 7936 (f (16 + k))
 
 pub loop-l-init : goal.loop-l-init
 loop-l-init c =
-    let t = c.before in
+    let t = c in
     let a = t.args in
     (pairs_none 16 (λ i. i % 16) (pair_of (product_at a.q.now a.x.now)) (pos 0) a.p.now t.requires.3, below_none _)
 
@@ -35,7 +32,7 @@ bounds-p-l-in-loop-l c = rw length-set (omega arith)
 
 pub loop-l-preserved : goal.loop-l-preserved
 loop-l-preserved c =
-    let d = c.before.before.before in
+    let d = c in
     let a = d.args in
     let l = d.loop-l.l in
     let f : ℕ → ℤ = product_at a.q.now a.x.now in

@@ -8,13 +8,14 @@ use mir.ValLaws.{to_z-of_z, to_z_pos}
 use Rattle.dots_activation.specs.Whole.{Within}
 use Rattle.dots_activation.proofs.Magnitudes.{pos_within, add_within, fits_within}
 use Rattle.dots_activation.proofs.Loops.{both_fit, both_are, product_fits, product_made}
+use Rattle.dots_whole.proofs.whole.weighed_pairs.Goals.{Start}
 use Rattle.dots_whole.proofs.whole.weighed_pairs.Goals as goal
 
 pub overflow_add-result : goal.overflow_add-result
 overflow_add-result c = both_fit w16 c.ranges.x.sfits c.ranges.y.sfits c.requires.1 c.requires.2 tt
 
 -- the sum in 16 bits
-module _ (c : goal.Start) where
+module _ (c : Start) where
   sum_is : to_z w16 (of_z w16 (to_z w16 (of_z w16 c.args.x) +ℤ to_z w16 (of_z w16 c.args.y))) ≡ c.args.x +ℤ c.args.y
   sum_is = both_are w16 c.ranges.x.sfits c.ranges.y.sfits c.requires.1 c.requires.2 tt
 

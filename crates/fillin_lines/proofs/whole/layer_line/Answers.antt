@@ -9,11 +9,11 @@ use Rattle.fillin_lines.proofs.whole.layer_line.Goals as goal
 pub returns : goal.returns
 unfolding layer_line
 returns c =
-    let p = c.before.before in
-    let q = p.before.before.before.before.before in
-    let r = q.before.before.before.before in
-    let s = r.before.before.before.before in
-    let t = s.before.before.before.before in
+    let p = c in
+    let q = p in
+    let r = q in
+    let s = r in
+    let t = s in
     let args = t.args in
     let word = first args.line.now (108 ∷ 97 ∷ 121 ∷ 101 ∷ 114 ∷ []) t.put-a.ensures.line_after t.put-a.ensures.value in
     let one = next (field args.format) word s.put_field-b.ensures.line_after s.put_field-b.ensures.value.0 in

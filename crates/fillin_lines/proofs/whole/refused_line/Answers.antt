@@ -10,9 +10,9 @@ use Rattle.fillin_lines.proofs.whole.refused_line.Goals as goal
 pub returns : goal.returns
 unfolding window_head refused_line
 returns c =
-    let p = c.before.before in
-    let q = p.before.before.before.before.before in
-    let r = q.before.before.before.before in
+    let p = c in
+    let q = p in
+    let r = q in
     let args = r.args in
     let word = first args.line.now (119 ∷ 105 ∷ 110 ∷ 100 ∷ 111 ∷ 119 ∷ []) r.put-a.ensures.line_after r.put-a.ensures.value in
     let number = next (field args.number) word q.put_field-b.ensures.line_after q.put_field-b.ensures.value.0 in

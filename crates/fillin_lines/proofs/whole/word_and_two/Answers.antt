@@ -8,10 +8,10 @@ use Rattle.fillin_lines.proofs.whole.word_and_two.Goals as goal
 
 pub returns : goal.returns
 returns c =
-    let p = c.before.before in
-    let q = p.before.before.before.before.before in
-    let r = q.before.before.before.before in
-    let s = r.before.before.before.before in
+    let p = c in
+    let q = p in
+    let r = q in
+    let s = r in
     let args = s.args in
     let word = first args.line.now args.word.now s.put-a.ensures.line_after s.put-a.ensures.value in
     let one = next (field args.one) word r.put_field-b.ensures.line_after r.put_field-b.ensures.value.0 in

@@ -3,7 +3,6 @@ use mathlib.Core.Path.{◌≡◌, sym, ◌∙◌}
 use mathlib.Core.Bool.{true, false}
 use mathlib.Core.List.{List}
 use Prim.Native.Nat.{ℕ}
-use borrow.Author.Tests.{not-true, not-false}
 use lib.Dec.{leb}
 use lib.ListN.{length}
 use Rattle.frames.specs.Frame.{good_length, size_of, is_whole}
@@ -18,7 +17,7 @@ unfolding is_whole
 sized s n e f = simp (e, f)
 
 pub returns-then-not-good_length : goal.returns-then-not-good_length
-returns-then-not-good_length c = bad _ (sym c.good_length.ensures ∙ not-true _ c.if-not-good_length.true-raw)
+returns-then-not-good_length c = bad _ (sym c.good_length.ensures ∙ c.if-not-good_length.true)
 
 pub returns : goal.returns
-returns c = sized _ _ (sym c.good_length.ensures ∙ not-false _ c.if-not-good_length.false-raw) c.type_size.ensures.0
+returns c = sized _ _ (sym c.good_length.ensures ∙ c.if-not-good_length.false) c.size_of.ensures.0

@@ -36,7 +36,7 @@ returns-then-mant-eq0-2 c =
 
 pub returns-then-exp-eq0 : goal.returns-then-exp-eq0
 returns-then-exp-eq0 c =
-    let d = c.before.before in
+    let d = c in
     let h = d.args.half in
     c.subnormal.ensures
     ∙ ap (λ (s : Bool). round binary32 s (digits h) (2 ^ 24)) (sign_bit h (omega arith))
@@ -44,7 +44,7 @@ returns-then-exp-eq0 c =
 
 pub returns : goal.returns
 returns c =
-    let d = c.before in
+    let d = c in
     let h = d.args.half in
     c.normal.ensures
     ∙ ap (λ (s : Bool). round binary32 s ((digits h + 1024) * 2 ^ (exponent h + 112)) (2 ^ 137)) (sign_bit h (omega arith))

@@ -7,13 +7,14 @@ use lib.Count.{count_leading_zeros}
 use lib.Dec.{eqb}
 use lib.Ieee.{binary32, round}
 use Rattle.halves.proofs.Shifted.{shifted, placed, Placed}
+use Rattle.halves.proofs.binary16.subnormal.Goals.{Start}
 use Rattle.halves.proofs.binary16.subnormal.Goals as goal
 
-there : (c : goal.Start) → Placed c.args.mant (count_leading_zeros 32 c.args.mant)
+there : (c : Start) → Placed c.args.mant (count_leading_zeros 32 c.args.mant)
 there c = placed c.args.mant c.requires.1 c.requires.2
 
 -- no digit is shifted out
-kept : (c : goal.Start) → (let n = c.args.mant * 2 ^ (count_leading_zeros 32 c.args.mant - 21) in n % 4294967296 ≡ n)
+kept : (c : Start) → (let n = c.args.mant * 2 ^ (count_leading_zeros 32 c.args.mant - 21) in n % 4294967296 ≡ n)
 kept c = let h = (there c).3 in mod-eq_of_lt (omega arith)
 
 pub overflow_sub-up : goal.overflow_sub-up

@@ -14,7 +14,7 @@ loop-l-init c = streamed_none (quant_q4k c.args.block.now) 0 (replicate 256 0) r
 
 pub loop-l-preserved : goal.loop-l-preserved
 loop-l-preserved c =
-    let d = c.before.before.before.before.before in
+    let d = c in
     let bs = d.args.block.now in
     let l = d.loop-l.l in
     let h : l < 32 = c.loop-l-test.true in

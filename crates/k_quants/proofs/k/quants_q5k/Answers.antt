@@ -13,20 +13,20 @@ pub loop-l-init : goal.loop-l-init
 loop-l-init c = streamed_none (quant_q5k c.args.block.now) 0 (replicate 256 0) refl
 
 pub overflow_add-q-in-loop-l : goal.overflow_add-q-in-loop-l
-overflow_add-q-in-loop-l c = omega (arith, c.shared_slice_known-in-loop-l-4-1.given (48 + c.loop-l.l))
+overflow_add-q-in-loop-l c = omega (arith, c.type_inv.block (48 + c.loop-l.l))
 
 pub overflow_add-q-in-loop-l-5 : goal.overflow_add-q-in-loop-l-5
-overflow_add-q-in-loop-l-5 c = omega (arith, c.shared_slice_known-in-loop-l-4-1.given (80 + c.loop-l.l))
+overflow_add-q-in-loop-l-5 c = omega (arith, c.type_inv.block (80 + c.loop-l.l))
 
 pub overflow_add-q-in-loop-l-9 : goal.overflow_add-q-in-loop-l-9
-overflow_add-q-in-loop-l-9 c = omega (arith, c.shared_slice_known-in-loop-l-4-1.given (112 + c.loop-l.l))
+overflow_add-q-in-loop-l-9 c = omega (arith, c.type_inv.block (112 + c.loop-l.l))
 
 pub overflow_add-q-in-loop-l-13 : goal.overflow_add-q-in-loop-l-13
-overflow_add-q-in-loop-l-13 c = omega (arith, c.shared_slice_known-in-loop-l-4-1.given (144 + c.loop-l.l))
+overflow_add-q-in-loop-l-13 c = omega (arith, c.type_inv.block (144 + c.loop-l.l))
 
 pub loop-l-preserved : goal.loop-l-preserved
 loop-l-preserved c =
-    let d = c.before.before.before.before.before.before in
+    let d = c in
     let bs = d.args.block.now in
     let l = d.loop-l.l in
     let h : l < 32 = c.loop-l-test.true in

@@ -18,20 +18,20 @@ pub loop-l-init : goal.loop-l-init
 loop-l-init c = streamed_none (quant_q6k c.args.block.now) (pos 0) (replicate 256 (pos 0)) refl
 
 pub six_bits-requires-in-loop-l-2 : goal.six_bits-requires-in-loop-l-2
-six_bits-requires-in-loop-l-2 c = omega (arith, c.shared_slice_known-in-loop-l-6-1.given c.loop-l.l)
+six_bits-requires-in-loop-l-2 c = omega (arith, c.type_inv.block c.loop-l.l)
 
 pub six_bits-requires-in-loop-l-3 : goal.six_bits-requires-in-loop-l-3
-six_bits-requires-in-loop-l-3 c = omega (arith, c.shared_slice_known-in-loop-l-6-1.given (32 + c.loop-l.l))
+six_bits-requires-in-loop-l-3 c = omega (arith, c.type_inv.block (32 + c.loop-l.l))
 
 pub six_bits-requires-in-loop-l-6 : goal.six_bits-requires-in-loop-l-6
-six_bits-requires-in-loop-l-6 c = omega (arith, c.shared_slice_known-in-loop-l-6-1.given (64 + c.loop-l.l))
+six_bits-requires-in-loop-l-6 c = omega (arith, c.type_inv.block (64 + c.loop-l.l))
 
 pub six_bits-requires-in-loop-l-7 : goal.six_bits-requires-in-loop-l-7
-six_bits-requires-in-loop-l-7 c = omega (arith, c.shared_slice_known-in-loop-l-6-1.given (96 + c.loop-l.l))
+six_bits-requires-in-loop-l-7 c = omega (arith, c.type_inv.block (96 + c.loop-l.l))
 
 pub loop-l-preserved : goal.loop-l-preserved
 loop-l-preserved c =
-    let m = c.before.before.before.before.before.before.before.before.before.before.before.before.before.before.before in
+    let m = c in
     let bs = m.args.block.now in
     let l = m.loop-l.l in
     let k : l < 32 = c.loop-l-test.true in

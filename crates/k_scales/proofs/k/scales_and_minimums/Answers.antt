@@ -15,11 +15,11 @@ loop-j-init c = pairs_none 8 (λ i. i % 8) (scale_then_minimum c.args.block.now)
 
 pub loop-j-preserved : goal.loop-j-preserved
 loop-j-preserved c =
-    let m = c.before in
-    let s = m.before.before in
-    let l = s.before.before in
-    let dmin = l.before in
-    let d = dmin.before.before.before.before in
+    let m = c in
+    let s = m in
+    let l = s in
+    let dmin = l in
+    let d = dmin in
     let bs = d.args.block.now in
     let j = l.loop-j.j in
     let h = s.loop-j-test.true in

@@ -16,7 +16,7 @@ pub loop-e-preserved : goal.loop-e-preserved
 unfolding scale_q6k
 loop-e-preserved c =
     let l = c.loop-e in
-    let f = c.before.before.before.before.before in
+    let f = c in
     let bs = f.args.block.now in
     let h = c.loop-e-test.true in
     filling_more (d_scale Q6K bs) _ 16 l.s l.e _ refl l.invariant h

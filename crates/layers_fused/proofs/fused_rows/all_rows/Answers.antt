@@ -16,13 +16,14 @@ use Rattle.memory.proofs.Parts.{within}
 use Rattle.layers_shape.specs.Shapes.{outputs}
 use Rattle.layers_shape.proofs.Fits.{Fits, fits}
 use Rattle.layers_fused.specs.Says.{fused_dot_at, fused_layer_says}
+use Rattle.layers_fused.proofs.fused_rows.all_rows.Goals.{In-loop-b}
 use Rattle.layers_fused.proofs.fused_rows.all_rows.Goals as goal
 
 pub loop-b-init : goal.loop-b-init
 loop-b-init c = (rw zero-mul (filled_none _ _), zero-le, refl)
 
 -- row b lies within the readings, and its outputs within the output
-facts : (c : goal.In-loop-b)
+facts : (c : In-loop-b)
     → (let a = c.args in
     let b = c.loop-b.b in
     let s = a.s in
@@ -30,7 +31,7 @@ facts : (c : goal.In-loop-b)
     × (b * s.in_feat + s.in_feat ≤ length a.x.now)
     × (b * s.out_feat + s.out_feat ≤ length a.y.now))
 facts c =
-    let t = c.before.before.before.before.before in
+    let t = c in
     let a = t.args in
     let s = a.s in
     let b = c.loop-b.b in
@@ -62,19 +63,19 @@ pub slice_bounds-one_row-end : goal.slice_bounds-one_row-end
 slice_bounds-one_row-end c = omega (arith, (facts c).1, (facts c).2)
 
 pub offset_bounds-y-at : goal.offset_bounds-y-at
-offset_bounds-y-at c = omega (arith, (facts c.before).1, (facts c.before).2)
+offset_bounds-y-at c = omega (arith, (facts (record { before = c.before.before; type_inv = record { w = c.type_inv.w; x = c.type_inv.x } })).1, (facts (record { before = c.before.before; type_inv = record { w = c.type_inv.w; x = c.type_inv.x } })).2)
 
 pub slice_bounds-one_row-count-in-loop-b : goal.slice_bounds-one_row-count-in-loop-b
-slice_bounds-one_row-count-in-loop-b c = omega (arith, (facts c.before).1, (facts c.before).2)
+slice_bounds-one_row-count-in-loop-b c = omega (arith, (facts (record { before = c.before.before; type_inv = record { w = c.type_inv.w; x = c.type_inv.x } })).1, (facts (record { before = c.before.before; type_inv = record { w = c.type_inv.w; x = c.type_inv.x } })).2)
 
 pub slice_bounds-one_row-start-in-loop-b : goal.slice_bounds-one_row-start-in-loop-b
-slice_bounds-one_row-start-in-loop-b c = omega (arith, (facts c.before).1, (facts c.before).2)
+slice_bounds-one_row-start-in-loop-b c = omega (arith, (facts (record { before = c.before.before; type_inv = record { w = c.type_inv.w; x = c.type_inv.x } })).1, (facts (record { before = c.before.before; type_inv = record { w = c.type_inv.w; x = c.type_inv.x } })).2)
 
 pub slice_bounds-one_row-end-in-loop-b : goal.slice_bounds-one_row-end-in-loop-b
-slice_bounds-one_row-end-in-loop-b c = omega (arith, (facts c.before).1, (facts c.before).2)
+slice_bounds-one_row-end-in-loop-b c = omega (arith, (facts (record { before = c.before.before; type_inv = record { w = c.type_inv.w; x = c.type_inv.x } })).1, (facts (record { before = c.before.before; type_inv = record { w = c.type_inv.w; x = c.type_inv.x } })).2)
 
 -- the rows that a turn lends have their lengths
-lengths : (c : goal.In-loop-b)
+lengths : (c : In-loop-b)
     → (let a = c.args in
     let b = c.loop-b.b in
     let n = a.s.in_feat in
@@ -91,9 +92,9 @@ lengths c =
 
 pub one_row-row-requires : goal.one_row-row-requires
 one_row-row-requires c =
-    let d = c.before.before in
-    let f = (facts d).0 in
-    let n = lengths d in
+    let d = c in
+    let f = (facts (record { before = c.before.before.before; type_inv = record { w = c.type_inv.w; x = c.type_inv.x } })).0 in
+    let n = lengths (record { before = c.before.before.before; type_inv = record { w = c.type_inv.w; x = c.type_inv.x } }) in
     rw (n.0, n.1) (f.within.in_in, f.whole, f.within.out_in, f.weighed)
 
 pub shape_of-y-in_default : goal.shape_of-y-in_default
@@ -103,14 +104,14 @@ pub returns-in_default : goal.returns-in_default
 returns-in_default c = absurd (never_refused _ _ c.one_row-row.ensures.0 c.in_default.is)
 
 pub overflow_step-b : goal.overflow_step-b
-overflow_step-b c = let d = c.before.before.before.before.before.before in omega (arith, d.loop-b-test.true, (facts d).0.within.batch_in)
+overflow_step-b c = let d = c in omega (arith, d.loop-b-test.true, (facts (record { before = c.before.before.before.before.before.before.before; type_inv = record { w = c.type_inv.w; x = c.type_inv.x } })).0.within.batch_in)
 
 pub loop-b-smaller : goal.loop-b-smaller
 loop-b-smaller c = omega (arith, c.loop-b-test.true)
 
 pub loop-b-preserved : goal.loop-b-preserved
 loop-b-preserved c =
-    let d = c.before.before.before.before.before.before in
+    let d = c in
     let l = d.loop-b in
     let a = d.args in
     let n = a.s.in_feat in
@@ -121,12 +122,12 @@ loop-b-preserved c =
     let row = take (b * n + n - b * n) (drop (b * n) x) in
     let f : ℕ → Float = λ k. fused_dot_at a.format (part x (k / outs * n) n) w n (k % outs) in
     let g : ℕ → Float = λ o. fused_dot_at a.format row w (length row) o in
-    let long = lengths d in
+    let long = lengths (record { before = c.before.before.before.before.before.before.before; type_inv = record { w = c.type_inv.w; x = c.type_inv.x } }) in
     let next : (b + 1) * outs ≡ b * outs + outs = rw add-one (suc-mul b outs) in
     let width : b * n + n - b * n ≡ n = omega arith in
     let same : (o : ℕ) → o < outs → g o ≡ f (b * outs + o) = λ o h. rw (long.0, width, digits_div b h, digits_mod b h) in
     let p =
-    part_turn f g a.y.now l.y c.one_row-row.new.y (b * outs) outs (b * outs + outs) ((b + 1) * outs) refl next (facts d).2 l.invariant.0
+    part_turn f g a.y.now l.y c.one_row-row.new.y (b * outs) outs (b * outs + outs) ((b + 1) * outs) refl next (facts (record { before = c.before.before.before.before.before.before.before; type_inv = record { w = c.type_inv.w; x = c.type_inv.x } })).2 l.invariant.0
     (c.one_row-row.ensures.1 ∙ ap (table g) long.1) same in
     (p.0, omega (arith, d.loop-b-test.true), p.1)
 
@@ -137,7 +138,7 @@ pub returns : goal.returns
 unfolding fused_layer_says outputs
 returns c =
     let l = c.loop-b in
-    let t = c.before.before.before.before.before in
+    let t = c in
     let a = t.args in
     let outs = a.s.out_feat in
     let f : ℕ → Float = λ k. fused_dot_at a.format (part a.x.now (k / outs * a.s.in_feat) a.s.in_feat) a.w.now a.s.in_feat (k % outs) in

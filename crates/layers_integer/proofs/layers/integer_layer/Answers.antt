@@ -14,24 +14,24 @@ returns-in-Refused c = refused_out _ _ c.layer_refusal.ensures c.in-Refused.is
 
 pub rows_of_512-requires : goal.rows_of_512-requires
 rows_of_512-requires c =
-    let e = c.before.before.before in
+    let e = c in
     check_passed e.layer_refusal.ensures e.in_default.is
 
 pub rows_of_16-requires : goal.rows_of_16-requires
 rows_of_16-requires c =
-    let e = c.before.before.before in
+    let e = c in
     (check_passed e.layer_refusal.ensures e.in_default.is, omega arith)
 
 pub returns-then-s-gt4096 : goal.returns-then-s-gt4096
 unfolding integer_layer_says
 returns-then-s-gt4096 c =
-    let r = c.before.before in
-    let e = r.before.before.before.before in
+    let r = c in
+    let e = r in
     ap (λ (y : List Float). (done, y)) r.rows_of_512.ensures ∙ done_out _ _ e.layer_refusal.ensures e.in_default.is
 
 pub returns-else-s-gt4096 : goal.returns-else-s-gt4096
 unfolding integer_layer_says
 returns-else-s-gt4096 c =
-    let r = c.before.before in
-    let e = r.before.before.before.before in
+    let r = c in
+    let e = r in
     ap (λ (y : List Float). (done, y)) r.rows_of_16.ensures ∙ done_out _ _ e.layer_refusal.ensures e.in_default.is

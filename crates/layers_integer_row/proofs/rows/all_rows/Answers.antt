@@ -17,13 +17,14 @@ use Rattle.layers_integer_row.specs.Inner.{kept_row_dot}
 use Rattle.layers_integer_row.specs.Outputs.{integer_dot_at}
 use Rattle.layers_integer_row.proofs.Outputs.{row_same}
 use native.Mathlib.Omega.{arith}
+use Rattle.layers_integer_row.proofs.rows.all_rows.Goals.{After-keep_row, In-loop-b}
 use Rattle.layers_integer_row.proofs.rows.all_rows.Goals as goal
 
 pub loop-b-init : goal.loop-b-init
 loop-b-init c = (rw zero-mul (filled_none _ _), zero-le, refl, refl, refl, refl, refl)
 
 -- row b lies within the readings, and its outputs within the output
-facts : (c : goal.In-loop-b)
+facts : (c : In-loop-b)
     → (let a = c.args in
     let b = c.loop-b.b in
     let s = a.s in
@@ -31,7 +32,7 @@ facts : (c : goal.In-loop-b)
     × (b * s.in_feat + s.in_feat ≤ length a.x.now)
     × (b * s.out_feat + s.out_feat ≤ length a.y.now))
 facts c =
-    let t = c.before.before.before.before.before.before.before in
+    let t = c in
     let a = t.args in
     let s = a.s in
     let b = c.loop-b.b in
@@ -57,7 +58,7 @@ pub slice_bounds-keep_row-end : goal.slice_bounds-keep_row-end
 slice_bounds-keep_row-end c = omega (arith, (facts c).1, (facts c).2)
 
 -- row b of the readings has its length
-long : (c : goal.In-loop-b)
+long : (c : In-loop-b)
     → (let a = c.args in
     let from = c.loop-b.b * a.s.in_feat in
     length (take (from + a.s.in_feat - from) (drop from a.x.now)) ≡ a.s.in_feat)
@@ -68,45 +69,45 @@ long c =
     part_length a.x.now from n (from + n) refl (facts c).1
 
 -- room for a row's blocks
-room : (c : goal.In-loop-b) → (let l = c.loop-b in KeptRoom (c.args.s.in_feat / 256) l.ds l.qs l.sums)
+room : (c : In-loop-b) → (let l = c.loop-b in KeptRoom (c.args.s.in_feat / 256) l.ds l.qs l.sums)
 room c =
-    let t = c.before.before.before.before.before.before.before in
+    let t = c in
     let l = c.loop-b in
     room_same _ t.args.ds.now l.ds t.args.qs.now l.qs t.args.sums.now l.sums l.invariant.3 l.invariant.4 l.invariant.5 t.requires.2
 
 pub keep_row-requires : goal.keep_row-requires
 keep_row-requires c =
-    let d = c.before.before.before.before in
+    let d = c in
     let l = d.loop-b in
-    (le_trans (le_of_eq (long d)) (facts d).0.within.in_in, subst (λ (z : ℕ). KeptRoom (z / 256) l.ds l.qs l.sums) (sym (long d)) (room d))
+    (le_trans (le_of_eq (long (record { before = c.before.before.before.before.before; type_inv = record { w = c.type_inv.w; x = c.type_inv.x } }))) (facts (record { before = c.before.before.before.before.before; type_inv = record { w = c.type_inv.w; x = c.type_inv.x } })).0.within.in_in, subst (λ (z : ℕ). KeptRoom (z / 256) l.ds l.qs l.sums) (sym (long (record { before = c.before.before.before.before.before; type_inv = record { w = c.type_inv.w; x = c.type_inv.x } }))) (room (record { before = c.before.before.before.before.before; type_inv = record { w = c.type_inv.w; x = c.type_inv.x } })))
 
 pub overflow_mul-at : goal.overflow_mul-at
-overflow_mul-at c = let d = c.before.before.before.before.before.before.before.before.before in omega (arith, (facts d).2)
+overflow_mul-at c = let d = c in omega (arith, (facts (record { before = c.before.before.before.before.before.before.before.before.before.before; type_inv = record { w = c.type_inv.w; x = c.type_inv.x } })).2)
 
 pub overflow_add-end : goal.overflow_add-end
-overflow_add-end c = let d = c.before.before.before.before.before.before.before.before.before in omega (arith, (facts d).2)
+overflow_add-end c = let d = c in omega (arith, (facts (record { before = c.before.before.before.before.before.before.before.before.before.before; type_inv = record { w = c.type_inv.w; x = c.type_inv.x } })).2)
 
 pub offset_bounds-y-at : goal.offset_bounds-y-at
-offset_bounds-y-at c = let d = c.before.before.before.before.before.before.before.before.before.before.before.before.before in omega (arith, (facts d).2, d.loop-b.invariant.2)
+offset_bounds-y-at c = let d = c in omega (arith, (facts (record { before = c.before.before.before.before.before.before.before.before.before.before.before.before.before.before; type_inv = record { dots = c.type_inv.dots; ds = c.type_inv.ds; w = c.type_inv.w; x = c.type_inv.x } })).2, d.loop-b.invariant.2)
 
 pub slice_bounds-one_row-count : goal.slice_bounds-one_row-count
-slice_bounds-one_row-count c = let d = c.before.before.before.before.before.before.before.before.before.before.before.before.before in omega (arith, (facts d).2, d.loop-b.invariant.2)
+slice_bounds-one_row-count c = let d = c in omega (arith, (facts (record { before = c.before.before.before.before.before.before.before.before.before.before.before.before.before.before; type_inv = record { dots = c.type_inv.dots; ds = c.type_inv.ds; w = c.type_inv.w; x = c.type_inv.x } })).2, d.loop-b.invariant.2)
 
 pub slice_bounds-one_row-start : goal.slice_bounds-one_row-start
-slice_bounds-one_row-start c = let d = c.before.before.before.before.before.before.before.before.before.before.before.before.before in omega (arith, (facts d).2, d.loop-b.invariant.2)
+slice_bounds-one_row-start c = let d = c in omega (arith, (facts (record { before = c.before.before.before.before.before.before.before.before.before.before.before.before.before.before; type_inv = record { dots = c.type_inv.dots; ds = c.type_inv.ds; w = c.type_inv.w; x = c.type_inv.x } })).2, d.loop-b.invariant.2)
 
 pub slice_bounds-one_row-end : goal.slice_bounds-one_row-end
-slice_bounds-one_row-end c = let d = c.before.before.before.before.before.before.before.before.before.before.before.before.before in omega (arith, (facts d).2, d.loop-b.invariant.2)
+slice_bounds-one_row-end c = let d = c in omega (arith, (facts (record { before = c.before.before.before.before.before.before.before.before.before.before.before.before.before.before; type_inv = record { dots = c.type_inv.dots; ds = c.type_inv.ds; w = c.type_inv.w; x = c.type_inv.x } })).2, d.loop-b.invariant.2)
 
 -- row b is kept
-keeps : (c : goal.After-keep_row)
-    → (let d = c.before.before.before.before.before in
+keeps : (c : After-keep_row)
+    → (let d = c in
     let a = d.args in
     let n = a.s.in_feat in
     let h = c.keep_row.new in
     Keeps (part a.x.now (d.loop-b.b * n) n) (n / 256) h.ds h.qs h.sums × KeptRoom (n / 256) h.ds h.qs h.sums)
 keeps c =
-    let d = c.before.before.before.before.before in
+    let d = c in
     let a = d.args in
     let n = a.s.in_feat in
     let l = d.loop-b in
@@ -115,19 +116,19 @@ keeps c =
     let k = c.keep_row.auto in
     let width : from + n - from ≡ n = omega arith in
     let row = take (from + n - from) (drop from a.x.now) in
-    let by_length = subst (λ (z : ℕ). Keeps row (z / 256) h.ds h.qs h.sums) (long d) c.keep_row.ensures in (
+    let by_length = subst (λ (z : ℕ). Keeps row (z / 256) h.ds h.qs h.sums) (long (record { before = c.before.before.before.before.before.before; type_inv = record { w = c.type_inv.w; x = c.type_inv.x } })) c.keep_row.ensures in (
       subst (λ (z : ℕ). Keeps (take z (drop from a.x.now)) (n / 256) h.ds h.qs h.sums) width by_length,
-      room_same (n / 256) l.ds h.ds l.qs h.qs l.sums h.sums k.qs k.sums k.1.1.1.0 (room d),
+      room_same (n / 256) l.ds h.ds l.qs h.qs l.sums h.sums k.qs k.sums k.1.1.1.0 (room (record { before = c.before.before.before.before.before.before; type_inv = record { w = c.type_inv.w; x = c.type_inv.x } })),
     )
 
 -- a place for each block, and for each row of weights
-places : (c : goal.In-loop-b)
+places : (c : In-loop-b)
     → (let a = c.args in
     let l = c.loop-b in
     let at = l.b * a.s.out_feat in
     (length l.dots ≡ a.s.in_feat / 256) × (length (take (at + a.s.out_feat - at) (drop at l.y)) ≡ a.s.out_feat))
 places c =
-    let t = c.before.before.before.before.before.before.before in
+    let t = c in
     let outs = t.args.s.out_feat in
     let l = c.loop-b in
     let at = l.b * outs in
@@ -136,25 +137,25 @@ places c =
 
 pub one_row-requires : goal.one_row-requires
 one_row-requires c =
-    let k = c.before.before.before.before.before.before.before.before.before in
-    let d = k.before.before.before.before.before in
-    let f = (facts d).0 in
-    let p = places d in
+    let k = c in
+    let d = k in
+    let f = (facts (record { before = c.before.before.before.before.before.before.before.before.before.before.before.before.before.before.before; type_inv = record { dots = c.type_inv.dots; ds = c.type_inv.ds; w = c.type_inv.w; x = c.type_inv.x } })).0 in
+    let p = places (record { before = c.before.before.before.before.before.before.before.before.before.before.before.before.before.before.before; type_inv = record { dots = c.type_inv.dots; ds = c.type_inv.ds; w = c.type_inv.w; x = c.type_inv.x } }) in
     let h = k.keep_row.new in
-    let row = keeps k in
+    let row = keeps (record { before = c.before.before.before.before.before.before.before.before.before.before; type_inv = record { w = c.type_inv.w; x = c.type_inv.x } }) in
     rw (p.0, p.1) (omega (arith, f.within.in_in), f.within.out_in, f.weighed, kept_by _ _ h.ds h.qs h.sums row.1 row.0)
 
 pub overflow_step-b : goal.overflow_step-b
-overflow_step-b c = let d = c.before.before.before.before.before.before.before.before.before.before.before.before.before.before.before.before.before.before.before in omega (arith, d.loop-b-test.true, (facts d).0.within.batch_in)
+overflow_step-b c = let d = c in omega (arith, d.loop-b-test.true, (facts (record { before = c.before.before.before.before.before.before.before.before.before.before.before.before.before.before.before.before.before.before.before.before; type_inv = record { dots = c.type_inv.dots; ds = c.type_inv.ds; w = c.type_inv.w; x = c.type_inv.x } })).0.within.batch_in)
 
 pub loop-b-smaller : goal.loop-b-smaller
 loop-b-smaller c = omega (arith, c.loop-b-test.true)
 
 pub loop-b-preserved : goal.loop-b-preserved
 loop-b-preserved c =
-    let q = c.before.before.before.before in
-    let k = q.before.before.before.before.before.before.before.before.before.before in
-    let d = k.before.before.before.before.before in
+    let q = c in
+    let k = q in
+    let d = k in
     let a = d.args in
     let l = d.loop-b in
     let n = a.s.in_feat in
@@ -164,17 +165,17 @@ loop-b-preserved c =
     let w = a.w.now in
     let h = k.keep_row.new in
     let kept = k.keep_row.auto in
-    let p = places d in
+    let p = places (record { before = c.before.before.before.before.before.before.before.before.before.before.before.before.before.before.before.before.before.before.before.before; type_inv = record { dots = c.type_inv.dots; ds = c.type_inv.ds; w = c.type_inv.w; x = c.type_inv.x } }) in
     let f : ℕ → Float = λ j. integer_dot_at a.format a.meeting (part x (j / outs * n) n) w n (j % outs) in
     let g : ℕ → Float = kept_row_dot a.format a.meeting w h.ds h.qs h.sums (length l.dots) in
     let next : (b + 1) * outs ≡ b * outs + outs = rw add-one (suc-mul b outs) in
     let same : (o : ℕ) → o < outs → g o ≡ f (b * outs + o) =
     λ o t.
     ap (λ (z : ℕ). kept_row_dot a.format a.meeting w h.ds h.qs h.sums z o) p.0
-    ∙ row_same a.format (part x (b * n) n) n h.ds h.qs h.sums (keeps k).0 a.meeting w o
+    ∙ row_same a.format (part x (b * n) n) n h.ds h.qs h.sums (keeps (record { before = c.before.before.before.before.before.before.before.before.before.before.before.before.before.before.before; type_inv = record { w = c.type_inv.w; x = c.type_inv.x } })).0 a.meeting w o
     ∙ rw (digits_div b t, digits_mod b t) in
     let r =
-    part_turn f g a.y.now l.y q.one_row.new.y (b * outs) outs (b * outs + outs) ((b + 1) * outs) refl next (facts d).2 l.invariant.0
+    part_turn f g a.y.now l.y q.one_row.new.y (b * outs) outs (b * outs + outs) ((b + 1) * outs) refl next (facts (record { before = c.before.before.before.before.before.before.before.before.before.before.before.before.before.before.before.before.before.before.before.before; type_inv = record { dots = c.type_inv.dots; ds = c.type_inv.ds; w = c.type_inv.w; x = c.type_inv.x } })).2 l.invariant.0
     (q.one_row.ensures ∙ ap (table g) p.1) same in
     (r.0, omega (arith, d.loop-b-test.true), r.1, kept.qs ∙ l.invariant.3, kept.sums ∙ l.invariant.4, kept.1.1.1.0 ∙ l.invariant.5, q.one_row.auto.1.1.1.1.1.1.0 ∙ l.invariant.6)
 

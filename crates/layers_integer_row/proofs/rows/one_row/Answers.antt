@@ -14,26 +14,27 @@ use native.Mathlib.Omega.{arith}
 use Rattle.dots_kept_row.specs.Meets.{meets}
 use Rattle.dots_kept_row.specs.Inner.{KeptRow, kept_dot}
 use Rattle.layers_integer_row.specs.Inner.{kept_row_dot}
+use Rattle.layers_integer_row.proofs.rows.one_row.Goals.{After-block_bytes, In-loop-o}
 use Rattle.layers_integer_row.proofs.rows.one_row.Goals as goal
 
 -- a row's bytes are few
-small : (c : goal.After-block_bytes) → length c.args.dots.now * c.block_bytes.result ≤ 107520
+small : (c : After-block_bytes) → length c.args.dots.now * c.block_bytes.result ≤ 107520
 small c =
-    let s = c.before.before.before.before.before in
+    let s = c in
     product_small _ _ 512 210 s.requires.0 (rw c.block_bytes.ensures (sizes (OfK s.args.format)).1)
 
 -- row o lies within the weights
-facts : (c : goal.In-loop-o)
-    → (let k = c.before.before in
+facts : (c : In-loop-o)
+    → (let k = c in
     let a = k.args in
     let size = length a.dots.now * k.block_bytes.result in
     (c.loop-o.o * size + size ≤ length a.w.now) × (size ≤ 107520) × (c.loop-o.o < 65536))
 facts c =
-    let k = c.before.before in
-    let s = k.before.before.before.before.before in
+    let k = c in
+    let s = k in
     let size = length s.args.dots.now * k.block_bytes.result in
     let room : length s.args.y.now * size ≤ length s.args.w.now = rw k.block_bytes.ensures s.requires.2 in
-    (within c.loop-o.o size (length s.args.y.now) (length s.args.w.now) c.loop-o-test.true room, small k, omega (arith, c.loop-o-test.true, s.requires.1))
+    (within c.loop-o.o size (length s.args.y.now) (length s.args.w.now) c.loop-o-test.true room, small (record { before = c.before.before.before; type_inv = record { y = c.type_inv.y; dots = c.type_inv.dots; ds = c.type_inv.ds; w = c.type_inv.w } }), omega (arith, c.loop-o-test.true, s.requires.1))
 
 pub overflow_mul-size : goal.overflow_mul-size
 overflow_mul-size c = omega (arith, small c)
@@ -58,21 +59,21 @@ slice_bounds-kept_row_dot-end c = omega (arith, facts c)
 
 pub kept_row_dot-requires : goal.kept_row_dot-requires
 kept_row_dot-requires c =
-    let d = c.before.before in
-    let k = d.before.before in
-    let s = k.before.before.before.before.before in
+    let d = c in
+    let k = d in
+    let s = k in
     let l = d.loop-o in
     let size = length s.args.dots.now * k.block_bytes.result in
     let e = l.invariant.0 in
-    let long = part_length s.args.w.now (l.o * size) size (l.o * size + size) refl (facts d).0 in
+    let long = part_length s.args.w.now (l.o * size) size (l.o * size + size) refl (facts (record { before = c.before.before.before; type_inv = record { ds = c.type_inv.ds; w = c.type_inv.w } })).0 in
     let bytes = ap (λ (n : ℕ). n * bytes_k s.args.format) e ∙ ap (λ (z : ℕ). length s.args.dots.now * z) (sym k.block_bytes.ensures) in
     (le_trans (le_of_eq e) s.requires.0, le_of_eq (bytes ∙ sym long), subst (λ (n : ℕ). KeptRow n s.args.ds.now s.args.qs.now s.args.sums.now) (sym e) s.requires.3)
 
 pub loop-o-preserved : goal.loop-o-preserved
 loop-o-preserved c =
-    let q = c.before.before in
-    let d = q.before.before.before in
-    let k = d.before.before in
+    let q = c in
+    let d = q in
+    let k = d in
     let a = k.args in
     let l = d.loop-o in
     let n = length a.dots.now in

@@ -15,11 +15,11 @@ pub loop-k-init : goal.loop-k-init
 loop-k-init c = pairs_none 16 (λ i. i % 16) (quant32 Q40Ggml c.args.block.now) (pos 0) (replicate 32 (pos 0)) refl
 
 pub less-requires-in-loop-k : goal.less-requires-in-loop-k
-less-requires-in-loop-k c = omega (arith, c.shared_slice_known-in-loop-k-1.given (2 + c.loop-k.k))
+less-requires-in-loop-k c = omega (arith, c.type_inv.block (2 + c.loop-k.k))
 
 pub loop-k-preserved : goal.loop-k-preserved
 loop-k-preserved c =
-    let m = c.before.before.before.before in
+    let m = c in
     let bs = m.args.block.now in
     let k = m.loop-k.k in
     let h : k < 16 = omega (arith, c.loop-k-test.true) in

@@ -16,11 +16,11 @@ pub loop-k-init : goal.loop-k-init
 loop-k-init c = pairs_none 16 (λ i. i % 16) (quant32 Q50 c.args.block.now) (pos 0) (replicate 32 (pos 0)) refl
 
 pub with_high_bit-requires-in-loop-k : goal.with_high_bit-requires-in-loop-k
-with_high_bit-requires-in-loop-k c = omega (arith, c.shared_slice_known-in-loop-k-1.given (6 + c.loop-k.k))
+with_high_bit-requires-in-loop-k c = omega (arith, c.type_inv.block (6 + c.loop-k.k))
 
 pub loop-k-preserved : goal.loop-k-preserved
 loop-k-preserved c =
-    let m = c.before.before.before.before in
+    let m = c in
     let bs = m.args.block.now in
     let k = m.loop-k.k in
     let h : k < 16 = c.loop-k-test.true in

@@ -22,7 +22,7 @@ of_q40 (Iq4Nl s) xs h = absurd (⊎_elim (λ e. omega arith) (λ e. omega arith)
 pub returns-in-Q40 : goal.returns-in-Q40
 unfolding neg of_bits
 returns-in-Q40 c =
-    let t = c.before.before.before in
+    let t = c in
     rw (← of_q40 t.args.target t.args.x.now c.in-Q40.in-Q40-own.keys1, c.largest_value.ensures, t.requires)
 
 pub returns-in-Q80 : goal.returns-in-Q80

@@ -21,7 +21,7 @@ picked (Iq4Nl s) d h = absurd (⊎_elim (λ e. omega arith) (⊎_elim (λ e. ome
 
 pub returns-in-Q40 : goal.returns-in-Q40
 returns-in-Q40 c =
-    let t = c.before.before.before in
+    let t = c in
     c.f32_to_f16.ensures ∙ ap narrowing c.bits_of.ensures ∙ picked t.args.target t.args.d c.in-Q40.in-Q40-own.keys1
 
 pub returns-in-Iq4Nl : goal.returns-in-Iq4Nl

@@ -8,16 +8,12 @@ use lib.ListN.{get_or}
 use Rattle.memory.proofs.Filled.{filling_start, filling_more, filling_done, get_or_table}
 use Rattle.nearest.specs.Nearest.{quant_iq4_nl}
 use Rattle.nearest.proofs.Meaning.{nearest_of_reading}
-use Rattle.quantizers.specs.declared.target.Target.TheVariants.{Iq4Nl}
-use Rattle.quantizers.proofs.Bytes.{written}
+use Rattle.quantizers.proofs.block.write_quants_iq4_nl.Goals.{After-nibbles_iq4_nl-n}
+use Rattle.quantizers.proofs.block.write_quants_iq4_nl.Invariants.{bytes}
 use Rattle.quantizers.proofs.block.write_quants_iq4_nl.Goals as goal
 
--- what the scale is does not matter here
-abbrev bytes : List Float → Float → ℕ → ℕ
-bytes = written (Iq4Nl 0)
-
 -- the nibble at a place, which is one
-module _ (c : goal.After-nibbles_iq4_nl-n) (i : ℕ) (h : i < 32) where
+module _ (c : After-nibbles_iq4_nl-n) (i : ℕ) (h : i < 32) where
   abbrev reading : Float
   reading = mul binary32 (get_or c.args.x.now i nan) c.args.inverse
 
@@ -31,20 +27,20 @@ pub nibbles_iq4_nl-n-requires : goal.nibbles_iq4_nl-n-requires
 nibbles_iq4_nl-n-requires c = c.requires.0
 
 pub loop-k-init : goal.loop-k-init
-loop-k-init c = let t = c.before.before.before in filling_start (bytes t.args.x.now t.args.inverse) t.args.out.now 16 t.requires.1
+loop-k-init c = let t = c in filling_start (bytes t.args.x.now t.args.inverse) t.args.out.now 16 t.requires.1
 
 pub overflow_mul-out : goal.overflow_mul-out
-overflow_mul-out c = omega (arith, nibble_small c.before.before (c.loop-k.k + 16) (omega arith))
+overflow_mul-out c = omega (arith, nibble_small (record { before = c.before.before.before; type_inv = record { out = c.type_inv.out; x = c.type_inv.x } }) (c.loop-k.k + 16) (omega arith))
 
 pub overflow_add-out-in-loop-k : goal.overflow_add-out-in-loop-k
-overflow_add-out-in-loop-k c = let k = c.loop-k.k in omega (arith, nibble_small c.before.before k (omega arith), nibble_small c.before.before (k + 16) (omega arith))
+overflow_add-out-in-loop-k c = let k = c.loop-k.k in omega (arith, nibble_small (record { before = c.before.before.before; type_inv = record { out = c.type_inv.out; x = c.type_inv.x } }) k (omega arith), nibble_small (record { before = c.before.before.before; type_inv = record { out = c.type_inv.out; x = c.type_inv.x } }) (k + 16) (omega arith))
 
 pub loop-k-preserved : goal.loop-k-preserved
 loop-k-preserved c =
     let l = c.loop-k in
-    let m = c.before.before in
-    let t = m.before.before.before in
-    filling_more (bytes t.args.x.now t.args.inverse) t.args.out.now 16 l.out l.k _ t.requires.1 l.invariant c.loop-k-test.true (rw (nibble_is m l.k (omega arith), nibble_is m (l.k + 16) (omega arith)))
+    let m = c in
+    let t = m in
+    filling_more (bytes t.args.x.now t.args.inverse) t.args.out.now 16 l.out l.k _ t.requires.1 l.invariant c.loop-k-test.true (rw (nibble_is (record { before = c.before.before.before; type_inv = record { out = c.type_inv.out; x = c.type_inv.x } }) l.k (omega arith), nibble_is (record { before = c.before.before.before; type_inv = record { out = c.type_inv.out; x = c.type_inv.x } }) (l.k + 16) (omega arith)))
 
 pub shape_of-out : goal.shape_of-out
 shape_of-out c = c.loop-k.invariant.2 ∙ sym c.requires.1
@@ -52,5 +48,5 @@ shape_of-out c = c.loop-k.invariant.2 ∙ sym c.requires.1
 pub returns : goal.returns
 returns c =
     let l = c.loop-k in
-    let t = c.before.before.before.before.before in
+    let t = c in
     filling_done (bytes t.args.x.now t.args.inverse) t.args.out.now 16 l.out l.k t.requires.1 l.invariant c.loop-k-test.false

@@ -22,6 +22,6 @@ quantize_blocks-requires c = room_for_bytes _ _ _ (check_passed c.quantize_refus
 pub returns : goal.returns
 unfolding quantize_says
 returns c =
-    let f = c.before.before.before.before in
+    let f = c in
     let q = c.quantize_blocks.ensures in
     cc (q.0, q.1) ∙ sym (carried_value _ _ _ _ (else_later _ _ (check_passed f.quantize_refusal-checked.ensures f.in_default.is)))

@@ -8,6 +8,7 @@ use Rattle.layouts.specs.Formats.{bytes32}
 use Rattle.layouts.proofs.Sizes.{least_32}
 use Rattle.quantizers.specs.Blocks.{format_of}
 use Rattle.memory.proofs.Parts.{few}
+use Rattle.quantizers.proofs.blocks.quantize_refusal.Goals.{After-block_bytes}
 use Rattle.quantizers.proofs.blocks.quantize_refusal.Goals as goal
 
 pub returns-then-n-gt-MOST_FLOATS : goal.returns-then-n-gt-MOST_FLOATS
@@ -19,12 +20,12 @@ unfolding quantize_refusal given
 returns-then-n-ne0 c = simp (le-ltb _ _ c.if-n-gt-MOST_FLOATS.false, ne_eqb _ _ c.if-n-ne0.true)
 
 -- the size is that of the target's format
-size_is : (c : goal.After-block_bytes) → c.block_bytes.result ≡ bytes32 (format_of c.args.target)
+size_is : (c : After-block_bytes) → c.block_bytes.result ≡ bytes32 (format_of c.args.target)
 size_is c = c.block_bytes.ensures ∙ ap bytes32 c.format_of.ensures
 
 pub overflow_mul-n : goal.overflow_mul-n
 overflow_mul-n c =
-    let t = c.before.before.before.before in
+    let t = c in
     record { fits = few t.args.n 32 c.block_bytes.result (omega (arith, c.if-n-gt-MOST_FLOATS.false)) (omega (arith, least_32 (format_of t.args.target), size_is c)) }
 
 pub returns-then-room-n : goal.returns-then-room-n

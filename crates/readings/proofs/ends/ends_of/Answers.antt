@@ -16,12 +16,12 @@ loop-j-init c = let l = c.loop-i in (omega arith, rw add-zero l.invariant.2, rw 
 
 pub loop-j-preserved : goal.loop-j-preserved
 loop-j-preserved c =
-    let head = c.before.before.before.before in
+    let head = c in
     let x = head.args.x.now in
     let i = head.loop-i.i in
     let j = head.loop-j.j in
     let lane : j ≡ (i + j) % 8 = omega arith in
-    let held = c.shared_slice_known-in-loop-j-1.given (i + j) in (
+    let held = c.type_inv.x (i + j) in (
       omega arith,
       rw (← add_assoc i j 1, c.larger_of.ensures) (lanes_more false x head.loop-j.high (i + j) j lane held head.loop-j.invariant.1),
       rw (← add_assoc i j 1, c.smaller_of.ensures) (lanes_more true x head.loop-j.low (i + j) j lane held head.loop-j.invariant.2),
@@ -35,10 +35,10 @@ loop-i-preserved c =
 
 pub returns : goal.returns
 returns c =
-    let head = c.before.before.before.before.before.before.before in
+    let head = c in
     let x = head.args.x.now in
     let all : head.loop-i.i ≡ length x / 8 * 8 = omega arith in
-    let known = head.shared_slice_known-1.given in
+    let known = head.type_inv.x in
     let whole : length x / 8 * 8 % 8 ≡ 0 = omega arith in
     let inside : length x / 8 * 8 ≤ length x = omega arith in (
       c.ends_with.ensures.0 ∙ rw c.high_of_8.ensures (joined false x head.loop-i.high (length x / 8 * 8) whole inside known (rw all at head.loop-i.invariant.2)),

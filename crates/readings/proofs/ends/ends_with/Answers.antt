@@ -20,7 +20,7 @@ loop-i-init c = (omega arith, refl, refl, refl)
 
 pub loop-i-preserved : goal.loop-i-preserved
 loop-i-preserved c =
-    let head = c.before.before.before.before in
+    let head = c in
     let x = head.args.x.now in (
       omega arith,
       omega arith,

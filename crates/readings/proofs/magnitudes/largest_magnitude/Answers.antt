@@ -5,5 +5,5 @@ use Rattle.readings.proofs.magnitudes.largest_magnitude.Goals as goal
 
 pub returns : goal.returns
 returns c =
-    let e = c.before.before in
-    c.larger_of.ensures ∙ simp (e.ends_of-e.ensures.0, e.ends_of-e.ensures.1) (larger_end e.args.x.now e.shared_slice_known-1.given)
+    let e = c in
+    c.larger_of.ensures ∙ simp (e.ends_of-e.ensures.0, e.ends_of-e.ensures.1) (larger_end e.args.x.now e.type_inv.x)

@@ -10,14 +10,15 @@ use lib.ListN.{get_or}
 use lib.Ieee.{Float, nan, binary32, lt, neg, fits}
 use Rattle.numbers.specs.Steps.{nought}
 use Rattle.readings.proofs.TwoEnds.{far, other_further, above_zero, further_end, same_ends, no_ends}
+use Rattle.readings.proofs.magnitudes.largest_value.Goals.{After-ends_of-e}
 use Rattle.readings.proofs.magnitudes.largest_value.Goals as goal
 
-module _ (c : goal.After-ends_of-e) where
+module _ (c : After-ends_of-e) where
   abbrev xs : List Float
   xs = c.args.x.now
 
   fit : (i : ℕ) → T (fits binary32 (get_or xs i nan))
-  fit = c.shared_slice_known-1.given
+  fit = c.type_inv.x
 
   -- the three tests
   up_further : lt (neg c.ends_of-e.result.high) c.ends_of-e.result.low ≡ ltb (far xs fit true) (far xs fit false)
@@ -34,20 +35,20 @@ module _ (c : goal.After-ends_of-e) where
 
 pub returns-then-high-low : goal.returns-then-high-low
 returns-then-high-low c =
-    let e = c.before in
-    e.ends_of-e.ensures.0 ∙ sym (further_end (xs e) (fit e) false (ltb-true _ _ (sym (up_further e) ∙ c.if-high-low.true)))
+    let e = c in
+    e.ends_of-e.ensures.0 ∙ sym (further_end (xs (record { before = c.before.before; type_inv = record { x = c.type_inv.x } })) (fit (record { before = c.before.before; type_inv = record { x = c.type_inv.x } })) false (ltb-true _ _ (sym (up_further (record { before = c.before.before; type_inv = record { x = c.type_inv.x } })) ∙ c.if-high-low.true)))
 
 pub returns-then-high-low-2 : goal.returns-then-high-low-2
 returns-then-high-low-2 c =
-    let e = c.before.before in
-    e.ends_of-e.ensures.1 ∙ sym (further_end (xs e) (fit e) true (ltb-true _ _ (sym (down_further e) ∙ c.if-high-low-2.true)))
+    let e = c in
+    e.ends_of-e.ensures.1 ∙ sym (further_end (xs (record { before = c.before.before.before; type_inv = record { x = c.type_inv.x } })) (fit (record { before = c.before.before.before; type_inv = record { x = c.type_inv.x } })) true (ltb-true _ _ (sym (down_further (record { before = c.before.before.before; type_inv = record { x = c.type_inv.x } })) ∙ c.if-high-low-2.true)))
 
 pub first_of-requires : goal.first_of-requires
 first_of-requires c =
-    let e = c.before.before.before in
-    e.ends_of-e.ensures.0 ∙ same_ends (xs e) (fit e) (as_far e c.if-high-low.false c.if-high-low-2.false)
+    let e = c in
+    e.ends_of-e.ensures.0 ∙ same_ends (xs (record { before = c.before.before.before.before; type_inv = record { x = c.type_inv.x } })) (fit (record { before = c.before.before.before.before; type_inv = record { x = c.type_inv.x } })) (as_far (record { before = c.before.before.before.before; type_inv = record { x = c.type_inv.x } }) c.if-high-low.false c.if-high-low-2.false)
 
 pub returns : goal.returns
 returns c =
-    let e = c.before.before.before in
-    sym (no_ends (xs e) (fit e) (as_far e c.if-high-low.false c.if-high-low-2.false) (le_antisymm (ltb-false _ _ (sym (some_end e) ∙ c.if-high.false)) zero-le))
+    let e = c in
+    sym (no_ends (xs (record { before = c.before.before.before.before; type_inv = record { x = c.type_inv.x } })) (fit (record { before = c.before.before.before.before; type_inv = record { x = c.type_inv.x } })) (as_far (record { before = c.before.before.before.before; type_inv = record { x = c.type_inv.x } }) c.if-high-low.false c.if-high-low-2.false) (le_antisymm (ltb-false _ _ (sym (some_end (record { before = c.before.before.before.before; type_inv = record { x = c.type_inv.x } })) ∙ c.if-high.false)) zero-le))

@@ -16,27 +16,28 @@ use Rattle.readings.specs.Readings.{held, quant_q8}
 use Rattle.numbers.proofs.Signed.{read_is}
 use Rattle.readings.proofs.Held.{UpTo, held_up_to}
 use Rattle.readings.proofs.BothSides.{half, not_below, below}
+use Rattle.readings.proofs.quants.round_q8.Goals.{After-held_whole-q, Joined-p}
 use Rattle.readings.proofs.quants.round_q8.Goals as goal
 
 -- the rule of a magnitude
 abbrev ruled : Float → ℤ
 ruled x = held (pos 0) (pos 127) (truncated (add binary32 x half))
 
-value : (c : goal.After-held_whole-q) → c.held_whole-q.result ≡ ruled (magnitude c.args.p)
+value : (c : After-held_whole-q) → c.held_whole-q.result ≡ ruled (magnitude c.args.p)
 unfolding of_bits
 value c = c.held_whole-q.ensures ∙ ap ruled c.magnitude_of.ensures
 
-quant : (c : goal.After-held_whole-q) → UpTo 127 c.held_whole-q.result
+quant : (c : After-held_whole-q) → UpTo 127 c.held_whole-q.result
 quant c = rw (value c) (held_up_to 127 (truncated (add binary32 (magnitude c.args.p) half)))
 
 -- the quant by it, on each side of zero
-turned_is : (c : goal.After-held_whole-q) → lt c.args.p nought ≡ true → quant_q8 c.args.p ≡ neg_ℤ c.held_whole-q.result
+turned_is : (c : After-held_whole-q) → lt c.args.p nought ≡ true → quant_q8 c.args.p ≡ neg_ℤ c.held_whole-q.result
 turned_is c h =
     let p = c.args.p in
     let e : ruled (magnitude p) ≡ ruled (neg p) = rw h in
     below p h ∙ ap neg_ℤ (sym (value c ∙ e))
 
-straight_is : (c : goal.After-held_whole-q) → lt c.args.p nought ≡ false → quant_q8 c.args.p ≡ c.held_whole-q.result
+straight_is : (c : After-held_whole-q) → lt c.args.p nought ≡ false → quant_q8 c.args.p ≡ c.held_whole-q.result
 straight_is c h =
     let p = c.args.p in
     let e : ruled (magnitude p) ≡ ruled p = rw h in
@@ -77,7 +78,7 @@ record Quant (p : Float) (bits : ℕ) : Type 0 where
   is : to_z w32 bits ≡ quant_q8 p
   byte : mag (quant_q8 p) < 128
 
-met : (c : goal.Joined-p) → Quant c.args.p c.if-p.signed-bits
+met : (c : Joined-p) → Quant c.args.p c.if-p.signed-bits
 met c =
     let q = quant c.before in
     ⊎_elim

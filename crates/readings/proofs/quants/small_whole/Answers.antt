@@ -13,9 +13,10 @@ use mir.Syntax.{w32}
 use mir.Val.{to_z, of_z}
 use Rattle.numbers.proofs.Signed.{read_is}
 use Rattle.readings.proofs.SmallWhole.{Whole, small, near, whole_of}
+use Rattle.readings.proofs.quants.small_whole.Goals.{After-row_known-1, Joined-c-near}
 use Rattle.readings.proofs.quants.small_whole.Goals as goal
 
-sized : (c : goal.After-row_known-1) → Whole c.args.c
+sized : (c : After-row_known-1) → Whole c.args.c
 sized c = whole_of (small c.args.c c.requires.0 c.requires.1)
 
 -- a whole number up to 256 as a float and back
@@ -44,11 +45,11 @@ unfolding of_bits
 float_to_int-result c = cast_in (sized c)
 
 -- where the ways meet
-one_or_none : (c : goal.Joined-c-near) → to_z w32 c.if-c-near.result-bits ≡ pos (cond (lt c.args.c (near c.args.c)) 1 0)
+one_or_none : (c : Joined-c-near) → to_z w32 c.if-c-near.result-bits ≡ pos (cond (lt c.args.c (near c.args.c)) 1 0)
 unfolding of_bits
 one_or_none c = ⊎_elim (λ w. rw (w.1, w.0.taken)) (λ w. rw (w.1, w.0.left)) c.if-c-near.branch
 
-rest : (c : goal.Joined-c-near) → to_z w32 (of_z w32 (to_signed 31 (near c.args.c))) -ℤ to_z w32 c.if-c-near.result-bits ≡ pos (sized c.before).w
+rest : (c : Joined-c-near) → to_z w32 (of_z w32 (to_signed 31 (near c.args.c))) -ℤ to_z w32 c.if-c-near.result-bits ≡ pos (sized c.before).w
 rest c = left_over (sized c.before) (one_or_none c)
 
 pub overflow_sub-result : goal.overflow_sub-result

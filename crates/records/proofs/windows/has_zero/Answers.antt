@@ -13,7 +13,7 @@ loop-k-init c = (omega arith, refl)
 
 pub loop-k-preserved : goal.loop-k-preserved
 loop-k-preserved c =
-    let k = c.before.before.before in
+    let k = c in
     let p = k.args.bytes.now in
     let l = k.loop-k in
     let e = c.bits_at.ensures in (
@@ -26,7 +26,7 @@ loop-k-preserved c =
 
 pub returns : goal.returns
 returns c =
-    let k = c.before in
+    let k = c in
     let a = k.args in
     let e : k.loop-k.k ≡ a.n = omega arith in
     k.loop-k.invariant.1 ∙ ap (has_zero a.bytes.now) e

@@ -19,7 +19,7 @@ read p k bits v e f = e ∙ ap (of_bits binary32) f
 
 pub loop-k-preserved : goal.loop-k-preserved
 loop-k-preserved c =
-    let b = c.before in
+    let b = c in
     let l = b.loop-k in
     filling_more _ _ _ l.x l.k _ refl l.invariant (omega arith) (read _ _ _ _ c.of_bits.ensures b.bits_at.ensures)
 

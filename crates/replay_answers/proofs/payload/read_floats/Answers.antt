@@ -17,7 +17,7 @@ loop-i-smaller c = simp length-set (omega arith)
 pub loop-i-preserved : goal.loop-i-preserved
 unfolding float_at
 loop-i-preserved c =
-    let t = c.before.before.before in
+    let t = c in
     filling_more _ _ _ _ _ _ refl t.loop-i.invariant (omega arith)
     (c.of_bits.ensures ∙ ap (of_bits binary32) c.u32_at.ensures)
 

@@ -20,17 +20,17 @@ loop-i-init c = (omega arith, every_none _)
 pub returns-then-payload-i : goal.returns-then-payload-i
 unfolding same_bytes
 returns-then-payload-i c =
-    let t = c.before.before.before.before in
+    let t = c in
     rw (le-ltb _ _ t.if-payload-bytes.false) (sym (every_not _ _ t.loop-i.i (omega arith) (ne_eqb _ _ c.if-payload-i.true)))
 
 pub loop-i-preserved : goal.loop-i-preserved
 loop-i-preserved c =
-    let t = c.before.before.before.before in
+    let t = c in
     (omega arith, every_more _ _ t.loop-i.invariant.1 (eq-eqb _ _ c.if-payload-i.false))
 
 pub returns : goal.returns
 unfolding same_bytes
 returns c =
-    let t = c.before in
+    let t = c in
     let e : t.loop-i.i ≡ length t.args.bytes.now = omega arith in
     rw (le-ltb _ _ t.if-payload-bytes.false) (sym (rw e at t.loop-i.invariant.1))

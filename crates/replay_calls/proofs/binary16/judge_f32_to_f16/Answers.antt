@@ -3,4 +3,4 @@ use native.Mathlib.Omega.{arith}
 use Rattle.replay_calls.proofs.binary16.judge_f32_to_f16.Goals as goal
 
 pub overflow_cast-fared : goal.overflow_cast-fared
-overflow_cast-fared c = omega (arith, c.shared_slice_known-8-1.given 6)
+overflow_cast-fared c = omega (arith, c.type_inv.payload 6)

@@ -17,13 +17,13 @@ loop-i-init c = (omega arith, every_none _)
 
 pub returns-then-a-i : goal.returns-then-a-i
 returns-then-a-i c =
-    let t = c.before.before.before.before in
+    let t = c in
     let a = t.args in
     sym (every_not _ 256 t.loop-i.i (omega arith) (eq_z_not (elem a.a.now t.loop-i.i) (elem a.b.now t.loop-i.i) (λ e. c.if-a-i.true (ap (of_z w8) e))))
 
 pub loop-i-preserved : goal.loop-i-preserved
 loop-i-preserved c =
-    let t = c.before.before.before.before in
+    let t = c in
     let a = t.args in
     let e : elem a.a.now t.loop-i.i ≡ elem a.b.now t.loop-i.i = sym (read_is w8 _ c.t7-1.given) ∙ ap (to_z w8) c.if-a-i.false ∙ read_is w8 _ c.t10-1.given in
     (omega arith, every_more _ _ t.loop-i.invariant.1 (rw e (eq_z_same (elem a.b.now t.loop-i.i))))

@@ -17,13 +17,13 @@ loop-j-init c = (omega arith, every_none _)
 
 pub returns-then-a-j : goal.returns-then-a-j
 returns-then-a-j c =
-    let t = c.before.before.before.before in
+    let t = c in
     let a = t.args in
     sym (every_not _ 8 t.loop-j.j (omega arith) (eq_z_not (elem a.a.now t.loop-j.j) (elem a.b.now t.loop-j.j) (λ e. c.if-a-j.true (ap (of_z w32) e))))
 
 pub loop-j-preserved : goal.loop-j-preserved
 loop-j-preserved c =
-    let t = c.before.before.before.before in
+    let t = c in
     let a = t.args in
     let e : elem a.a.now t.loop-j.j ≡ elem a.b.now t.loop-j.j = sym (read_is w32 _ c.t8-1.given) ∙ ap (to_z w32) c.if-a-j.false ∙ read_is w32 _ c.t12-1.given in
     (omega arith, every_more _ _ t.loop-j.invariant.1 (rw e (eq_z_same (elem a.b.now t.loop-j.j))))

@@ -11,6 +11,7 @@ use Rattle.stepped_shape.specs.Layer.{pieces}
 use Rattle.stepped_shape.proofs.Shapes.{Openable, openable}
 use Rattle.stepped_shape.proofs.Says.{by_unknown, by_known}
 use Rattle.stepped.specs.Says.{no_sum, no_mark, open_says}
+use Rattle.stepped.proofs.opening.open.Goals.{In_default-open_refusal}
 use Rattle.stepped.proofs.opening.open.Goals as goal
 
 -- the front of n places was lent and is a table now
@@ -24,11 +25,11 @@ returns-in_default c = by_unknown _ _ c.format_named.ensures c.in_default.is
 pub returns-in-Refused : goal.returns-in-Refused
 unfolding open_says
 returns-in-Refused c =
-    let p = c.before in
-    let f = p.before in
+    let p = c in
+    let f = p in
     refused_out _ _ p.open_refusal.ensures c.in-Refused.is ∙ by_known _ _ f.format_named.ensures f.in-Known.is
 
-able : (c : goal.In_default-open_refusal) → let a = c.args in
+able : (c : In_default-open_refusal) → let a = c.args in
     Openable a.l (length a.slots.now) (length a.marks.now)
 able c = openable _ _ _ (check_passed c.open_refusal.ensures c.in_default-open_refusal.is)
 
@@ -36,30 +37,30 @@ pub pieces_of-n-requires : goal.pieces_of-n-requires
 pieces_of-n-requires c = (able c).shape
 
 pub slice_bounds-clear_slots-end : goal.slice_bounds-clear_slots-end
-slice_bounds-clear_slots-end c = omega (arith, c.pieces_of-n.ensures, (able c.before).has_room.slots_enough)
+slice_bounds-clear_slots-end c = omega (arith, c.pieces_of-n.ensures, (able (record { before = c.before.before; type_inv = record { marks = c.type_inv.marks; slots = c.type_inv.slots } })).has_room.slots_enough)
 
 pub slice_bounds-clear_slots-end-2 : goal.slice_bounds-clear_slots-end-2
-slice_bounds-clear_slots-end-2 c = sym (length-take-le _ _ (slice_bounds-clear_slots-end c.before))
+slice_bounds-clear_slots-end-2 c = sym (length-take-le _ _ (slice_bounds-clear_slots-end (record { before = c.before.before; type_inv = record { marks = c.type_inv.marks; slots = c.type_inv.slots } })))
 
 pub slice_bounds-clear_marks-end : goal.slice_bounds-clear_marks-end
 slice_bounds-clear_marks-end c =
-    let k = c.before.before.before.before in
-    omega (arith, k.pieces_of-n.ensures, (able k.before).has_room.marks_enough)
+    let k = c in
+    omega (arith, k.pieces_of-n.ensures, (able (record { before = c.before.before.before.before.before.before; type_inv = record { marks = c.type_inv.marks; slots = c.type_inv.slots } })).has_room.marks_enough)
 
 pub slice_bounds-clear_marks-end-2 : goal.slice_bounds-clear_marks-end-2
-slice_bounds-clear_marks-end-2 c = sym (length-take-le _ _ (slice_bounds-clear_marks-end c.before))
+slice_bounds-clear_marks-end-2 c = sym (length-take-le _ _ (slice_bounds-clear_marks-end (record { before = c.before.before; type_inv = record { slots = c.type_inv.slots; marks = c.type_inv.marks } })))
 
 pub returns : goal.returns
 unfolding open_says
 returns c =
-    let m = c.before.before in
-    let s = m.before.before.before.before in
-    let e = s.before.before.before in
-    let p = e.before in
-    let f = p.before in
+    let m = c in
+    let s = m in
+    let e = s in
+    let p = e in
+    let f = p in
     let a = f.args in
     let n = s.pieces_of-n in
-    let room = (able e).has_room in
+    let room = (able (record { before = c.before.before.before.before.before.before.before.before.before.before; type_inv = record { marks = c.type_inv.marks; slots = c.type_inv.slots } })).has_room in
     rw (
       front_filled no_sum a.slots.now s.clear_slots.new.slots n.result (pieces a.l) n.ensures (omega (arith, n.ensures, room.slots_enough)) s.clear_slots.ensures,
       front_filled no_mark a.marks.now m.clear_marks.new.marks n.result (pieces a.l) n.ensures (omega (arith, n.ensures, room.marks_enough)) m.clear_marks.ensures,

@@ -13,16 +13,17 @@ use Rattle.sums_tree.specs.Tree.{pair_up, met, tree}
 use Rattle.stepped_shape.specs.Layer.{chunks, pieces, place}
 use Rattle.stepped_shape.proofs.Shapes.{row_within, few_chunks, few_pieces}
 use Rattle.stepped_pieces.specs.Pieces.{row_met}
+use Rattle.stepped_pieces.proofs.rows.meet.Goals.{After-chunks_of-n}
 use Rattle.stepped_pieces.proofs.rows.meet.Goals as goal
 
 pub chunks_of-n-requires : goal.chunks_of-n-requires
 chunks_of-n-requires c = c.requires.0
 
 -- the row's slots lie within the layer's, and there are 16 at most
-row_in : (c : goal.After-chunks_of-n) → let a = c.args in
+row_in : (c : After-chunks_of-n) → let a = c.args in
     (a.row * c.chunks_of-n.result + c.chunks_of-n.result ≤ length a.slots.now) × (c.chunks_of-n.result ≤ 16) × (pieces a.l ≤ 1048576)
 row_in c =
-    let t = c.before.before in
+    let t = c in
     let r : t.args.row * c.chunks_of-n.result + c.chunks_of-n.result ≤ pieces t.args.l = simp c.chunks_of-n.ensures (row_within t.args.l t.args.row t.requires.1) in
     (omega (arith, r, t.requires.2), omega (arith, c.chunks_of-n.ensures, few_chunks _ t.requires.0), few_pieces _ t.requires.0)
 
@@ -30,10 +31,10 @@ pub overflow_mul-at : goal.overflow_mul-at
 overflow_mul-at c = omega (arith, row_in c)
 
 pub offset_bounds-slots-at : goal.offset_bounds-slots-at
-offset_bounds-slots-at c = omega (arith, row_in c.before)
+offset_bounds-slots-at c = omega (arith, row_in (record { before = c.before.before; type_inv = record { slots = c.type_inv.slots } }))
 
 pub bounds-slots-at : goal.bounds-slots-at
-bounds-slots-at c = omega (arith, row_in c.before.before)
+bounds-slots-at c = omega (arith, row_in (record { before = c.before.before.before; type_inv = record { slots = c.type_inv.slots } }))
 
 -- one value is its own tree
 tree_of_one : (f : ℕ → Float) (n : ℕ) → n ≡ 1 → tree (table f n) ≡ f 0
@@ -47,7 +48,7 @@ filled_front f xs ys i n e h = ap (take n) (h ∙ ap (filled f xs) e) ∙ take_a
 pub returns-then-n-eq1 : goal.returns-then-n-eq1
 unfolding row_met place
 returns-then-n-eq1 c =
-    let k = c.before.before in
+    let k = c in
     let a = k.args in
     let n = k.chunks_of-n in
     sym
@@ -58,39 +59,39 @@ pub loop-c-init : goal.loop-c-init
 loop-c-init c = (omega arith, filling_start _ _ 16 refl)
 
 pub overflow_add-sums : goal.overflow_add-sums
-overflow_add-sums c = omega (arith, row_in c.before.before.before)
+overflow_add-sums c = omega (arith, row_in (record { before = c.before.before.before.before; type_inv = record { slots = c.type_inv.slots } }))
 
 pub offset_bounds-slots-at-in-loop-c : goal.offset_bounds-slots-at-in-loop-c
-offset_bounds-slots-at-in-loop-c c = omega (arith, row_in c.before.before.before)
+offset_bounds-slots-at-in-loop-c c = omega (arith, row_in (record { before = c.before.before.before.before; type_inv = record { slots = c.type_inv.slots } }))
 
 pub bounds-slots-at-in-loop-c : goal.bounds-slots-at-in-loop-c
-bounds-slots-at-in-loop-c c = omega (arith, row_in c.before.before.before.before)
+bounds-slots-at-in-loop-c c = omega (arith, row_in (record { before = c.before.before.before.before.before; type_inv = record { slots = c.type_inv.slots } }))
 
 pub offset_bounds-sums-c : goal.offset_bounds-sums-c
-offset_bounds-sums-c c = omega (arith, row_in c.before.before.before.before)
+offset_bounds-sums-c c = omega (arith, row_in (record { before = c.before.before.before.before.before; type_inv = record { slots = c.type_inv.slots } }))
 
 pub bounds-sums-c : goal.bounds-sums-c
-bounds-sums-c c = omega (arith, row_in c.before.before.before.before)
+bounds-sums-c c = omega (arith, row_in (record { before = c.before.before.before.before.before; type_inv = record { slots = c.type_inv.slots } }))
 
 pub overflow_add-c : goal.overflow_add-c
-overflow_add-c c = omega (arith, row_in c.before.before.before.before)
+overflow_add-c c = omega (arith, row_in (record { before = c.before.before.before.before.before; type_inv = record { slots = c.type_inv.slots } }))
 
 pub loop-c-preserved : goal.loop-c-preserved
 loop-c-preserved c =
-    let k = c.before.before in
-    (omega arith, filling_more _ _ 16 k.loop-c.sums k.loop-c.c _ refl k.loop-c.invariant.1 (omega (arith, row_in k.before.before)) refl)
+    let k = c in
+    (omega arith, filling_more _ _ 16 k.loop-c.sums k.loop-c.c _ refl k.loop-c.invariant.1 (omega (arith, row_in (record { before = c.before.before.before.before.before; type_inv = record { slots = c.type_inv.slots } }))) refl)
 
 pub slice_bounds-sums-end : goal.slice_bounds-sums-end
-slice_bounds-sums-end c = let k = c.before in omega (arith, row_in k.before.before, k.loop-c.invariant.1.2)
+slice_bounds-sums-end c = let k = c in omega (arith, row_in (record { before = c.before.before.before.before; type_inv = record { slots = c.type_inv.slots } }), k.loop-c.invariant.1.2)
 
 pub slice_bounds-canonical_combine-end : goal.slice_bounds-canonical_combine-end
-slice_bounds-canonical_combine-end c = sym (length-take-le _ _ (slice_bounds-sums-end c.before))
+slice_bounds-canonical_combine-end c = sym (length-take-le _ _ (slice_bounds-sums-end (record { before = c.before.before; type_inv = record { sums = c.type_inv.sums; slots = c.type_inv.slots } })))
 
 pub returns : goal.returns
 unfolding row_met place
 returns c =
-    let q = c.before in
-    let k = q.before.before.before in
+    let q = c in
+    let k = q in
     let n = k.chunks_of-n in
     let a = k.args in
     ap (λ (p : Float × List Float). p.0) q.canonical_combine.ensures

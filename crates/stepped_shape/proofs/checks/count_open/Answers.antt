@@ -16,7 +16,7 @@ loop-i-init c = (omega arith, omega arith, refl)
 
 pub loop-i-preserved : goal.loop-i-preserved
 loop-i-preserved c =
-    let k = c.before.before.before in
+    let k = c in
     let m = k.args.marks.now in
     let i = k.loop-i.i in
     let h : i < length m = omega arith in

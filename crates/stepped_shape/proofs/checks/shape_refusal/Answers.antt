@@ -17,7 +17,7 @@ returns-then-l-gt-MOST_OUT c = sym (given_no _ _ _ (le-ltb _ _ c.if-l-gt-MOST_IN
 pub returns-then-l-ne0 : goal.returns-then-l-ne0
 unfolding shape_refusal
 returns-then-l-ne0 c =
-    let b = c.before.before in
+    let b = c in
     sym
     (given_no _ _ _ (le-ltb _ _ b.if-l-gt-MOST_IN.false)
     ∙ given_no _ _ _ (le-ltb _ _ b.if-l-gt-MOST_OUT.false)
@@ -26,7 +26,7 @@ returns-then-l-ne0 c =
 pub returns : goal.returns
 unfolding shape_refusal
 returns c =
-    let b = c.before.before in
+    let b = c in
     sym
     (given_no _ _ _ (le-ltb _ _ b.if-l-gt-MOST_IN.false)
     ∙ given_no _ _ _ (le-ltb _ _ b.if-l-gt-MOST_OUT.false)

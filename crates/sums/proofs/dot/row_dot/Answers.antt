@@ -36,8 +36,8 @@ loop-c-init c = chunking_start _ _ _ refl
 
 pub loop-c-preserved : goal.loop-c-preserved
 loop-c-preserved c =
-    let t = c.before.before.before in
-    let b = t.before.before in
+    let t = c in
+    let b = t in
     let a = b.args in
     let s = 8192 * b.loop-c.c in
     let e = t.chunk_end-e.result in
@@ -46,12 +46,12 @@ loop-c-preserved c =
 
 pub slice_bounds-canonical_combine-end : goal.slice_bounds-canonical_combine-end
 slice_bounds-canonical_combine-end c =
-    let b = c.before.before in
+    let b = c in
     sym (length-take-le b.chunks_in-chunks.result b.loop-c.sums (omega arith))
 
 pub returns : goal.returns
 returns c =
-    let b = c.before.before.before.before in
+    let b = c in
     let a = b.args in
     let m = b.chunks_in-chunks in
     chunking_met (products a.x.now a.w.now) a.n _ b.loop-c.sums _ b.loop-c.c m.result _ (omega arith) m.ensures c.canonical_combine.ensures b.loop-c.invariant

@@ -11,12 +11,12 @@ loop-i-init c = adding_start c.args.l (values c.args.x.now) (length c.args.x.now
 
 pub loop-i-preserved : goal.loop-i-preserved
 loop-i-preserved c =
-    let b = c.before.before in
+    let b = c in
     let a = b.args in
     adding_more a.l (values a.x.now) (length a.x.now) b.loop-i.out b.loop-i.i (omega arith) (omega arith) b.loop-i.invariant
 
 pub returns : goal.returns
 returns c =
-    let b = c.before in
+    let b = c in
     let a = b.args in
     adding_done a.l (values a.x.now) (length a.x.now) b.loop-i.out b.loop-i.i (omega arith) b.loop-i.invariant

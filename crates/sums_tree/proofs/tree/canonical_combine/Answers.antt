@@ -16,7 +16,7 @@ loop-len-smaller c = omega (arith, c.round-len.ensures.value)
 pub loop-len-preserved : goal.loop-len-preserved
 loop-len-preserved c =
     let r = c.round-len in
-    let b = c.before.before.before.before.before in
+    let b = c in
     let l = b.loop-len in
     let d = b.args.part.now in (
       omega (arith, r.ensures.value),
@@ -30,7 +30,7 @@ shape_of-part c = c.loop-len.invariant.2
 
 pub returns : goal.returns
 returns c =
-    let b = c.before.before in
+    let b = c in
     let l = b.loop-len in
     let e : l.len ≡ 1 = omega arith in
     underway_end b.args.part.now l.part (omega arith) (rw e at l.invariant.3)

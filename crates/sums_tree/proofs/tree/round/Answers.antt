@@ -12,7 +12,7 @@ loop-t-init c = (omega arith, filling_start (sum_at c.args.part.now c.args.len) 
 
 pub loop-t-preserved : goal.loop-t-preserved
 loop-t-preserved c =
-    let b = c.before.before.before in
+    let b = c in
     let a = b.args in
     let d = a.part.now in
     let l = b.loop-t in
@@ -24,7 +24,7 @@ shape_of-part-then-pairs-len c = simp length-set c.loop-t.invariant.1.2
 
 pub returns-then-pairs-len : goal.returns-then-pairs-len
 returns-then-pairs-len c =
-    let b = c.before.before.before in
+    let b = c in
     let a = b.args in
     let d = a.part.now in
     let l = b.loop-t in
@@ -38,6 +38,6 @@ shape_of-part c = c.loop-t.invariant.1.2
 
 pub returns : goal.returns
 returns c =
-    let b = c.before.before in
+    let b = c in
     let a = b.args in
     record { value = omega arith; part_after = round_done a.part.now a.len b.requires b.loop-t.t b.loop-t.part (omega arith) b.loop-t.invariant.1.0 }

@@ -4,4 +4,4 @@ use Rattle.sums_tree.proofs.TreeLaws.{tree_eight}
 use Rattle.sums_tree.proofs.tree.tree8.Goals as goal
 
 pub returns : goal.returns
-returns c = tree_eight c.args.t1 (omega arith)
+returns c = tree_eight c.args.l (omega arith)
