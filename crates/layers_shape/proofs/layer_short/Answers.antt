@@ -7,4 +7,4 @@ use Rattle.layers_shape.proofs.layer_short.Goals as goal
 pub overflow_mul-out_feat : goal.overflow_mul-out_feat
 overflow_mul-out_feat c =
     let a = c.args in
-    omega (arith, product_small a.out-feat (a.in-feat / 256) 65536 512 c.requires.1 (omega (arith, c.requires.0)))
+    omega (arith, product_small a.out_feat (a.in_feat / 256) 65536 512 c.requires.1 (omega (arith, c.requires.0)))

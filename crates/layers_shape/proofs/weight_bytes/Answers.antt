@@ -12,8 +12,8 @@ pub overflow_mul-result : goal.overflow_mul-result
 overflow_mul-result c =
     let a = c.args in
     let r = c.row_bytes in
-    let small : r.result ≤ 107520 = rw r.ensures (row_small a.format a.in-feat c.requires.0) in
-    omega (arith, product_small a.out-feat r.result 65536 107520 c.requires.1 small)
+    let small : r.result ≤ 107520 = rw r.ensures (row_small a.format a.in_feat c.requires.0) in
+    omega (arith, product_small a.out_feat r.result 65536 107520 c.requires.1 small)
 
 pub returns : goal.returns
-returns c = ap (λ (z : ℕ). c.args.out-feat * z) c.row_bytes.ensures
+returns c = ap (λ (z : ℕ). c.args.out_feat * z) c.row_bytes.ensures

@@ -17,7 +17,7 @@ returns c =
     let args = t.args in
     let word = first args.line.now (108 ∷ 97 ∷ 121 ∷ 101 ∷ 114 ∷ []) t.put-a.ensures.line_after t.put-a.ensures.value in
     let one = next (field args.format) word s.put_field-b.ensures.line_after s.put_field-b.ensures.value.0 in
-    let two = next (field args.in-feat) one r.put_field-c.ensures.line_after r.put_field-c.ensures.value.0 in
-    let three = next (field args.out-feat) two q.put_field-d.ensures.line_after q.put_field-d.ensures.value.0 in
-    let whole : Written args.line.now (layer_line args.format args.in-feat args.out-feat) p.put.new.line p.put.result = named (simp append_assoc) (next newline three p.put.ensures.line_after p.put.ensures.value) in
+    let two = next (field args.in_feat) one r.put_field-c.ensures.line_after r.put_field-c.ensures.value.0 in
+    let three = next (field args.out_feat) two q.put_field-d.ensures.line_after q.put_field-d.ensures.value.0 in
+    let whole : Written args.line.now (layer_line args.format args.in_feat args.out_feat) p.put.new.line p.put.result = named (simp append_assoc) (next newline three p.put.ensures.line_after p.put.ensures.value) in
     record { line_after = whole.holds; value = (whole.ends, omega (arith, p.put.ensures.value, q.put_field-d.ensures.value.1, r.put_field-c.ensures.value.1, s.put_field-b.ensures.value.1, t.put-a.ensures.value)) }

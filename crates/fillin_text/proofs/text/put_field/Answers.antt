@@ -11,7 +11,7 @@ use Rattle.fillin_text.proofs.text.put_field.Goals.{After-decimal-n_digits}
 use Rattle.fillin_text.proofs.text.put_field.Goals as goal
 
 -- what `io::decimal` leaves in front is our number
-spelt_out : (c : After-decimal-n_digits) → take c.decimal-n_digits.result c.decimal-n_digits.new.1.0 ≡ decimal c.args.n
+spelt_out : (c : After-decimal-n_digits) → take c.decimal-n_digits.result c.decimal-n_digits.new.out ≡ decimal c.args.n
 spelt_out c = c.decimal-n_digits.ensures.len.1 ∙ spelt c.decimal-n_digits.result c.args.n (omega arith) c.decimal-n_digits.ensures.len.0
 
 pub put-requires : goal.put-requires

@@ -16,7 +16,7 @@ pub returns-then-in_feat-gt-MOST_LAYER_IN : goal.returns-then-in_feat-gt-MOST_LA
 unfolding sizes_refusal
 returns-then-in_feat-gt-MOST_LAYER_IN c = sym (given_yes _ _ _ (above 2048 _ c.if-in_feat-gt-MOST_LAYER_IN.true))
 
-inputs : (c : Else-in_feat-gt-MOST_LAYER_IN) → not (up_to 2048 c.args.in-feat) ≡ false
+inputs : (c : Else-in_feat-gt-MOST_LAYER_IN) → not (up_to 2048 c.args.in_feat) ≡ false
 inputs c = among 2048 _ c.if-in_feat-lt1.false c.if-in_feat-gt-MOST_LAYER_IN.false
 
 pub returns-then-out_feat-lt1 : goal.returns-then-out_feat-lt1
@@ -27,7 +27,7 @@ pub returns-then-out_feat-gt-MOST_LAYER_OUT : goal.returns-then-out_feat-gt-MOST
 unfolding sizes_refusal
 returns-then-out_feat-gt-MOST_LAYER_OUT c = sym (given_no _ _ _ (inputs c.before.before) ∙ given_yes _ _ _ (above 16 _ c.if-out_feat-gt-MOST_LAYER_OUT.true))
 
-outputs : (c : Else-out_feat-gt-MOST_LAYER_OUT) → not (up_to 16 c.args.out-feat) ≡ false
+outputs : (c : Else-out_feat-gt-MOST_LAYER_OUT) → not (up_to 16 c.args.out_feat) ≡ false
 outputs c = among 16 _ c.if-out_feat-lt1.false c.if-out_feat-gt-MOST_LAYER_OUT.false
 
 pub returns-then-in_feat-ne0 : goal.returns-then-in_feat-ne0
