@@ -18,13 +18,15 @@ returns-in-Q80 c =
 pub decode_each-requires : goal.decode_each-requires
 decode_each-requires c =
     let told : c.match-format.format ≡ c.args.format = elim c.match-format.branch [
-      in-Of32+in_default-f w ↦ let h = w.in-Of32 in ? | in_default w ↦ w.format-is
+      | in-Of32+in_default-f w ↦ w.format-is ∙ sym w.in-Of32.is
+      | in_default w ↦ w.format-is
     ] in
     rw told c.requires
 
 pub returns : goal.returns
 returns c =
     let told : c.match-format.format ≡ c.args.format = elim c.match-format.branch [
-      in-Of32+in_default-f w ↦ w.format-is ∙ sym w.in-Of32.is | in_default w ↦ w.format-is
+      | in-Of32+in_default-f w ↦ w.format-is ∙ sym w.in-Of32.is
+      | in_default w ↦ w.format-is
     ] in
     rw told at c.decode_each.ensures
