@@ -13,7 +13,7 @@ use Rattle.refusals.specs.Said.{Said, value, done}
 use Rattle.refusals.specs.Sizes.{most_in}
 use Rattle.refusals.specs.Refusals.{given}
 use Rattle.refusals.proofs.Laws.{carried_value, carried_said}
-use Rattle.memory.specs.Lists.{table, part, stretches_in}
+use Rattle.memory.specs.Lists.{table, stretches_in}
 use Rattle.memory.proofs.Filled.{length_table, get_or_table}
 use Rattle.memory.proofs.Parts.{within}
 use Rattle.layouts.specs.Formats.{bytes_k}
@@ -22,7 +22,7 @@ use Rattle.sums_tree.specs.Tree.{tree, met}
 use Rattle.dots_integer_row.specs.Rows.{block_at, integer_row, integer_says}
 use Rattle.layers_shape.specs.declared.Shape.{Shape}
 use Rattle.layers_shape.specs.Shapes.{row_bytes, layer_refusal, reading_row, weight_row, outputs}
-use Rattle.layers_shape.proofs.Fits.{Fits, fits}
+use Rattle.layers_shape.proofs.Fits.{fits}
 use Rattle.dots_kept_row.specs.declared.meeting.Meeting.TheVariants.{Tree}
 use Rattle.dots_kept_row.specs.Meets.{meets}
 use Rattle.layers_integer_row.specs.Outputs.{integer_dot_at, integer_outputs}

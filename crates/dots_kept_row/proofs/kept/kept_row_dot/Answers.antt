@@ -1,7 +1,7 @@
 -- `kept::kept_row_dot` meets its contract: one block's dot a turn. Assumes nothing.
 use mathlib.Core.Path.{refl, ap, ◌∙◌}
 use mathlib.Core.List.{List}
-use Prim.Native.Nat.{ℕ, ◌+◌, ◌-◌, ◌*◌, ◌≤◌, ◌<◌}
+use Prim.Native.Nat.{ℕ, ◌+◌, ◌*◌, ◌≤◌, ◌<◌}
 use lib.ListN.{length}
 use Rattle.memory.proofs.Filled.{filling_start, filling_more, filling_done, part_length}
 use Rattle.memory.proofs.Parts.{within, lent_part}

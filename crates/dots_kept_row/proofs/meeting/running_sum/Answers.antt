@@ -1,6 +1,5 @@
 -- `meeting::running_sum` meets its contract. Assumes nothing.
 use mathlib.Core.Path.{◌≡◌, refl, ap, ◌∙◌}
-use Prim.Native.Nat.{◌-◌}
 use lib.ListN.{length, get_or}
 use lib.Ieee.{Float, nan, binary32, add}
 use Rattle.sums_lanes.specs.Lanes.{values}

@@ -1,7 +1,6 @@
 -- `whole::lanes_of` meets its contract: a turn adds sub-block j to every lane. Assumes nothing.
 use mathlib.Core.Path.{◌≡◌}
 use Prim.Native.Nat.{ℕ, ◌+◌, ◌-◌, ◌≤◌, ◌<◌}
-use lib.IntN.{ℤ}
 use Rattle.memory.specs.Lists.{table}
 use Rattle.memory.proofs.Filled.{Filling}
 use Rattle.layouts.specs.K.{scale_q4k}

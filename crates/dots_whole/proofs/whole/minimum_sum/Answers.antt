@@ -1,8 +1,8 @@
 -- `whole::minimum_sum` meets its contract: a minimum is below 64, and each sum is small. Assumes nothing.
 use mathlib.Core.Path.{◌≡◌, ap, ◌∙◌}
-use Prim.Native.Nat.{ℕ, ◌-◌}
+use Prim.Native.Nat.{ℕ}
 use native.Mathlib.Omega.{arith}
-use lib.IntN.{ℤ, pos, ◌*ℤ◌}
+use lib.IntN.{pos, ◌*ℤ◌}
 use mir.Syntax.{w8, w32}
 use mir.ValLaws.{to_z_pos}
 use Rattle.numbers.proofs.Signed.{read_is}

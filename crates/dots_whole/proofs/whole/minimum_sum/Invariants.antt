@@ -1,6 +1,6 @@
 -- `whole::minimum_sum` meets its contract: a minimum is below 64, and each sum is small. Assumes nothing.
 use Prim.Native.Nat.{ℕ, ◌-◌, ◌≤◌}
-use lib.IntN.{ℤ, pos, ◌*ℤ◌}
+use lib.IntN.{pos, ◌*ℤ◌}
 use mir.Syntax.{w32}
 use Rattle.layouts.specs.K.{minimum_q4k}
 use Rattle.dots_activation.specs.Whole.{elem}

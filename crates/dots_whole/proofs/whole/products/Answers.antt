@@ -1,7 +1,7 @@
 -- `whole::products` meets its contract: in turn g the 32 pairs of part g are filled. Assumes nothing.
 use mathlib.Core.Path.{◌≡◌, refl, sym, ap, ◌∙◌, subst}
 use mathlib.Core.List.{List}
-use Prim.Native.Nat.{ℕ, ◌+◌, ◌-◌, ◌*◌, ◌/◌, ◌%◌, ◌<◌}
+use Prim.Native.Nat.{ℕ, ◌+◌, ◌*◌, ◌/◌, ◌%◌, ◌<◌}
 use native.Mathlib.Nat.{le_of_eq}
 use native.Mathlib.Omega.{arith}
 use borrow.Author.Count.{below_none, below_more}
@@ -14,7 +14,6 @@ use Rattle.dots_activation.specs.Whole.{elem, Within}
 use Rattle.dots_activation.specs.Inner.{pair_of}
 use Rattle.dots_whole.specs.Inner.{product_at}
 use Rattle.dots_whole.proofs.Lent.{lent_length, five_bits_lent, pairs_lent}
-use Rattle.dots_whole.proofs.whole.products.Invariants.{Near}
 use Rattle.dots_whole.proofs.whole.products.Goals as goal
 
 pub loop-g-init : goal.loop-g-init

@@ -1,8 +1,8 @@
 -- `whole::run` meets its contract: 16 products, each within 16384. Assumes nothing.
 use mathlib.Core.Path.{◌≡◌}
-use Prim.Native.Nat.{◌+◌, ◌*◌, ◌-◌}
+use Prim.Native.Nat.{◌+◌, ◌*◌}
 use native.Mathlib.Omega.{arith}
-use lib.IntN.{ℤ, ◌*ℤ◌}
+use lib.IntN.{◌*ℤ◌}
 use mir.Syntax.{w8, w32}
 use Rattle.numbers.proofs.Signed.{read_is}
 use Rattle.dots_activation.specs.Whole.{elem}

@@ -1,6 +1,6 @@
 -- `whole::run` meets its contract: 16 products, each within 16384. Assumes nothing.
 use Prim.Native.Nat.{ℕ, ◌+◌, ◌*◌, ◌-◌, ◌≤◌}
-use lib.IntN.{ℤ, ◌*ℤ◌}
+use lib.IntN.{◌*ℤ◌}
 use mir.Syntax.{w32}
 use Rattle.dots_activation.specs.Whole.{elem}
 use Rattle.dots_activation.proofs.Loops.{Acc}

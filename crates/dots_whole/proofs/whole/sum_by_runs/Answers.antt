@@ -1,6 +1,5 @@
 -- `whole::sum_by_runs` meets its contract: sixteen runs. Assumes nothing.
 use mathlib.Core.Path.{◌≡◌, refl, ap, ◌∙◌}
-use Prim.Native.Nat.{◌-◌}
 use native.Mathlib.Omega.{arith}
 use lib.IntN.{ℤ, ◌*ℤ◌}
 use mir.Syntax.{w8, w32}

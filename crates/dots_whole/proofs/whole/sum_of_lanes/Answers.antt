@@ -1,5 +1,4 @@
 -- `whole::sum_of_lanes` meets its contract. Assumes nothing.
-use Prim.Native.Nat.{◌-◌}
 use native.Mathlib.Omega.{arith}
 use mir.Syntax.{w32}
 use Rattle.numbers.proofs.Signed.{read_is}

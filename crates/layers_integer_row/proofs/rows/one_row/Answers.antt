@@ -1,5 +1,5 @@
 -- `rows::one_row` meets its contract: one row of weights a turn. Assumes nothing.
-use mathlib.Core.Path.{refl, sym, ap, subst, ◌∙◌}
+use mathlib.Core.Path.{◌≡◌, refl, sym, ap, subst, ◌∙◌}
 use mathlib.Core.List.{List}
 use Prim.Native.Nat.{ℕ, ◌+◌, ◌-◌, ◌*◌, ◌≤◌, ◌<◌}
 use native.Mathlib.Nat.{le_of_eq, le_trans}
@@ -7,6 +7,7 @@ use lib.ListN.{length, take, drop}
 use Rattle.memory.proofs.Filled.{filling_start, filling_more, filling_done, part_length}
 use Rattle.memory.proofs.Parts.{within, lent_part}
 use Rattle.layouts.specs.Formats.{bytes_k}
+use Rattle.layouts.specs.declared.format.FormatK.{FormatK}
 use Rattle.layouts.specs.declared.format.Format.TheVariants.{OfK}
 use Rattle.layouts.proofs.Sizes.{sizes}
 use Rattle.layers_shape.proofs.Fits.{product_small}
@@ -14,60 +15,48 @@ use native.Mathlib.Omega.{arith}
 use Rattle.dots_kept_row.specs.Meets.{meets}
 use Rattle.dots_kept_row.specs.Inner.{KeptRow, kept_dot}
 use Rattle.layers_integer_row.specs.Inner.{kept_row_dot}
-use Rattle.layers_integer_row.proofs.rows.one_row.Goals.{After-block_bytes, In-loop-o}
 use Rattle.layers_integer_row.proofs.rows.one_row.Goals as goal
 
 -- a row's bytes are few
-small : (c : After-block_bytes) → length c.args.dots.now * c.block_bytes.result ≤ 107520
-small c =
-    let s = c in
-    product_small _ _ 512 210 s.requires.0 (rw c.block_bytes.ensures (sizes (OfK s.args.format)).1)
+small : (f : FormatK) (n : ℕ) {size : ℕ} → size ≡ bytes_k f → n ≤ 512 → n * size ≤ 107520
+small f n e h = product_small _ _ 512 210 h (rw e (sizes (OfK f)).1)
 
 -- row o lies within the weights
-facts : (c : In-loop-o)
-    → (let k = c in
-    let a = k.args in
-    let size = length a.dots.now * k.block_bytes.result in
-    (c.loop-o.o * size + size ≤ length a.w.now) × (size ≤ 107520) × (c.loop-o.o < 65536))
-facts c =
-    let k = c in
-    let s = k in
-    let size = length s.args.dots.now * k.block_bytes.result in
-    let room : length s.args.y.now * size ≤ length s.args.w.now = rw k.block_bytes.ensures s.requires.2 in
-    (within c.loop-o.o size (length s.args.y.now) (length s.args.w.now) c.loop-o-test.true room, small (record { before = c.before.before.before; type_inv = record { y = c.type_inv.y; dots = c.type_inv.dots; ds = c.type_inv.ds; w = c.type_inv.w } }), omega (arith, c.loop-o-test.true, s.requires.1))
+facts : (f : FormatK) (n o rows room : ℕ) {size : ℕ} → size ≡ bytes_k f → n ≤ 512 → rows ≤ 65536 → rows * (n * bytes_k f) ≤ room → o < rows
+    → (o * (n * size) + n * size ≤ room) × (n * size ≤ 107520) × (o < 65536)
+facts f n o rows room {size} e h k r l = (within o (n * size) rows room l (rw e r), small f n e h, omega (arith, l, k))
 
 pub overflow_mul-size : goal.overflow_mul-size
-overflow_mul-size c = omega (arith, small c)
+overflow_mul-size c = omega (arith, small c.args.format (length c.args.dots.now) c.block_bytes.ensures c.requires.0)
 
 pub loop-o-init : goal.loop-o-init
 loop-o-init c = (refl, filling_start _ _ _ refl)
 
 pub overflow_mul-from : goal.overflow_mul-from
-overflow_mul-from c = omega (arith, facts c)
+overflow_mul-from c = omega (arith, facts c.args.format (length c.args.dots.now) c.loop-o.o (length c.args.y.now) (length c.args.w.now) c.block_bytes.ensures c.requires.0 c.requires.1 c.requires.2 c.loop-o-test.true)
 
 pub overflow_add-to : goal.overflow_add-to
-overflow_add-to c = omega (arith, facts c)
+overflow_add-to c = omega (arith, facts c.args.format (length c.args.dots.now) c.loop-o.o (length c.args.y.now) (length c.args.w.now) c.block_bytes.ensures c.requires.0 c.requires.1 c.requires.2 c.loop-o-test.true)
 
 pub slice_bounds-kept_row_dot-count : goal.slice_bounds-kept_row_dot-count
-slice_bounds-kept_row_dot-count c = omega (arith, facts c)
+slice_bounds-kept_row_dot-count c = omega (arith, facts c.args.format (length c.args.dots.now) c.loop-o.o (length c.args.y.now) (length c.args.w.now) c.block_bytes.ensures c.requires.0 c.requires.1 c.requires.2 c.loop-o-test.true)
 
 pub slice_bounds-kept_row_dot-start : goal.slice_bounds-kept_row_dot-start
-slice_bounds-kept_row_dot-start c = omega (arith, facts c)
+slice_bounds-kept_row_dot-start c = omega (arith, facts c.args.format (length c.args.dots.now) c.loop-o.o (length c.args.y.now) (length c.args.w.now) c.block_bytes.ensures c.requires.0 c.requires.1 c.requires.2 c.loop-o-test.true)
 
 pub slice_bounds-kept_row_dot-end : goal.slice_bounds-kept_row_dot-end
-slice_bounds-kept_row_dot-end c = omega (arith, facts c)
+slice_bounds-kept_row_dot-end c = omega (arith, facts c.args.format (length c.args.dots.now) c.loop-o.o (length c.args.y.now) (length c.args.w.now) c.block_bytes.ensures c.requires.0 c.requires.1 c.requires.2 c.loop-o-test.true)
 
 pub kept_row_dot-requires : goal.kept_row_dot-requires
 kept_row_dot-requires c =
-    let d = c in
-    let k = d in
-    let s = k in
-    let l = d.loop-o in
-    let size = length s.args.dots.now * k.block_bytes.result in
+    let a = c.args in
+    let l = c.loop-o in
+    let size = length a.dots.now * c.block_bytes.result in
     let e = l.invariant.0 in
-    let long = part_length s.args.w.now (l.o * size) size (l.o * size + size) refl (facts (record { before = c.before.before.before; type_inv = record { ds = c.type_inv.ds; w = c.type_inv.w } })).0 in
-    let bytes = ap (λ (n : ℕ). n * bytes_k s.args.format) e ∙ ap (λ (z : ℕ). length s.args.dots.now * z) (sym k.block_bytes.ensures) in
-    (le_trans (le_of_eq e) s.requires.0, le_of_eq (bytes ∙ sym long), subst (λ (n : ℕ). KeptRow n s.args.ds.now s.args.qs.now s.args.sums.now) (sym e) s.requires.3)
+    let k = facts c.args.format (length c.args.dots.now) c.loop-o.o (length c.args.y.now) (length c.args.w.now) c.block_bytes.ensures c.requires.0 c.requires.1 c.requires.2 c.loop-o-test.true in
+    let long = part_length a.w.now (l.o * size) size (l.o * size + size) refl k.0 in
+    let bytes = ap (λ (n : ℕ). n * bytes_k a.format) e ∙ ap (λ (z : ℕ). length a.dots.now * z) (sym c.block_bytes.ensures) in
+    (le_trans (le_of_eq e) c.requires.0, le_of_eq (bytes ∙ sym long), subst (λ (n : ℕ). KeptRow n a.ds.now a.qs.now a.sums.now) (sym e) c.requires.3)
 
 pub loop-o-preserved : goal.loop-o-preserved
 loop-o-preserved c =

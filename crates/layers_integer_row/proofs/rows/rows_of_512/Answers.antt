@@ -8,21 +8,19 @@ use Rattle.numbers.specs.Steps.{nought}
 use Rattle.layers_shape.proofs.Fits.{fits}
 use native.Mathlib.Omega.{arith}
 use Rattle.dots_kept_row.proofs.Blocks.{room_new}
-use Rattle.layers_integer_row.proofs.rows.rows_of_512.Goals.{After-struct_known-1}
 use Rattle.layers_integer_row.proofs.rows.rows_of_512.Goals as goal
 
 -- a row's blocks are at most 512
-few : (c : After-struct_known-1) → c.args.s.in_feat / 256 ≤ 512
-few c = let t = c in omega (arith, (fits _ _ _ _ _ t.requires).within.in_in)
-
 pub slice_bounds-dots-end : goal.slice_bounds-dots-end
-slice_bounds-dots-end c = few (record { before = c.before.before.before.before; type_inv = record { y = c.type_inv.y; w = c.type_inv.w; x = c.type_inv.x } })
+slice_bounds-dots-end c = omega (arith, (fits _ _ _ _ _ c.requires).within.in_in)
 
 pub slice_bounds-all_rows-end-4 : goal.slice_bounds-all_rows-end-4
-slice_bounds-all_rows-end-4 c = sym (length-take-le (c.args.s.in_feat / 256) (replicate 512 nought) (rw length-replicate (few (record { before = c.before.before.before.before.before; type_inv = record { y = c.type_inv.y; w = c.type_inv.w; x = c.type_inv.x } }))))
+slice_bounds-all_rows-end-4 c =
+    let few : c.args.s.in_feat / 256 ≤ 512 = omega (arith, (fits _ _ _ _ _ c.requires).within.in_in) in
+    sym (length-take-le (c.args.s.in_feat / 256) (replicate 512 nought) (rw length-replicate few))
 
 pub all_rows-requires : goal.all_rows-requires
 all_rows-requires c =
-    let t = c in
-    let blocks = t.args.s.in_feat / 256 in
-    (t.requires, length-take-le blocks (replicate 512 nought) (rw length-replicate (few (record { before = c.before.before.before.before.before.before; type_inv = record { y = c.type_inv.y; w = c.type_inv.w; x = c.type_inv.x } }))), room_new blocks 512 nought (pos 0) (pos 0) (few (record { before = c.before.before.before.before.before.before; type_inv = record { y = c.type_inv.y; w = c.type_inv.w; x = c.type_inv.x } })))
+    let blocks = c.args.s.in_feat / 256 in
+    let few : blocks ≤ 512 = omega (arith, (fits _ _ _ _ _ c.requires).within.in_in) in
+    (c.requires, length-take-le blocks (replicate 512 nought) (rw length-replicate few), room_new blocks 512 nought (pos 0) (pos 0) few)
