@@ -8,27 +8,20 @@ use Rattle.fillin_text.specs.Text.{field}
 use Rattle.fillin_lines.specs.Lines.{newline, window_head, output_fields, window_line}
 use Rattle.fillin_text.proofs.Laid.{Written, first, next, named}
 use Rattle.fillin_lines.proofs.Outputs.{shown_none, shown_more, shown_all}
-use Rattle.fillin_lines.proofs.whole.window_line.Goals.{After-slice_known-3-1}
 use Rattle.fillin_lines.proofs.whole.window_line.Goals as goal
 
 pub loop-k-init : goal.loop-k-init
-loop-k-init c =
-    let s = c in
-    let args = s.args in
-    (shown_none s.put_field-at.new.line s.put_field-at.result args.outputs.now, refl)
-
--- the number lies within the line
-room : (c : After-slice_known-3-1) → c.put_field-at.result ≤ length c.put_field-at.new.line
-room c = omega arith
+loop-k-init c = (shown_none c.put_field-at.new.line c.put_field-at.result c.args.outputs.now, refl)
 
 pub loop-k-preserved : goal.loop-k-preserved
 loop-k-preserved c =
-    let p = c in
-    let l = p in
-    let s = l in
-    let args = s.args in
-    let more : l.loop-k.k < length args.outputs.now = omega arith in (
-      shown_more s.put_field-at.new.line s.put_field-at.result args.outputs.now l.loop-k.line p.put_output-at.new.line l.loop-k.at p.put_output-at.result l.loop-k.k (room (record { before = c.before.before.before.before.before.before.before.before; type_inv = record { line = c.type_inv.line; outputs = c.type_inv.outputs } })) more l.loop-k.invariant.0 p.put_output-at.ensures.line_after p.put_output-at.ensures.value,
+    let n = c.put_field-at in
+    let l = c.loop-k in
+    let p = c.put_output-at in
+    let outputs = c.args.outputs.now in
+    let room : n.result ≤ length n.new.line = omega arith in
+    let more : l.k < length outputs = omega arith in (
+      shown_more n.new.line n.result outputs l.line p.new.line l.at p.result l.k room more l.invariant.0 p.ensures.line_after p.ensures.value,
       omega arith,
     )
 

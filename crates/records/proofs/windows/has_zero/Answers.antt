@@ -1,10 +1,10 @@
 -- `windows::has_zero` meets its contract: `found` says whether one of the first k values has all bits zero. Assumes nothing.
 use native.Mathlib.Omega.{arith}
 use mathlib.Core.Path.{◌≡◌, refl, sym, ap, ◌∙◌}
-use mathlib.Core.Logic.{⊎_elim}
 use Prim.Native.Nat.{◌-◌}
 use Rattle.records.specs.Kinds.{has_zero}
 use Rattle.records.proofs.Zeros.{zero_found, zero_keeps}
+use Rattle.records.proofs.windows.has_zero.Goals.{then-bits_at-eq0, else-bits_at-eq0}
 use Rattle.records.proofs.windows.has_zero.Goals as goal
 
 pub loop-k-init : goal.loop-k-init
@@ -18,10 +18,10 @@ loop-k-preserved c =
     let l = k.loop-k in
     let e = c.bits_at.ensures in (
       omega arith,
-      ⊎_elim
-          (λ w. w.1 ∙ sym (zero_found p l.k (sym e ∙ w.0.taken)))
-          (λ w. w.1 ∙ l.invariant.1 ∙ sym (zero_keeps p l.k (λ z. w.0.left (e ∙ z))))
-          c.if-bits_at-eq0.branch,
+      elim c.if-bits_at-eq0.branch [
+        | then-bits_at-eq0 w ↦ w.found-is ∙ sym (zero_found p l.k (sym e ∙ w.if-bits_at-eq0.true))
+        | else-bits_at-eq0 w ↦ w.found-is ∙ l.invariant.1 ∙ sym (zero_keeps p l.k (λ z. w.if-bits_at-eq0.false (e ∙ z)))
+      ],
     )
 
 pub returns : goal.returns

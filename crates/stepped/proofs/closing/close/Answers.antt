@@ -6,7 +6,6 @@ use Rattle.refusals.proofs.Laws.{check_passed, refused_out, done_out}
 use Rattle.stepped_shape.proofs.Shapes.{Closable, closable}
 use Rattle.stepped_shape.proofs.Says.{by_unknown, by_known}
 use Rattle.stepped.specs.Says.{close_says}
-use Rattle.stepped.proofs.closing.close.Goals.{In_default-close_refusal}
 use Rattle.stepped.proofs.closing.close.Goals as goal
 
 pub returns-in_default : goal.returns-in_default
@@ -20,18 +19,14 @@ returns-in-Refused c =
     let f = p in
     refused_out _ _ p.close_refusal.ensures c.in-Refused.is ∙ by_known _ _ f.format_named.ensures f.in-Known.is
 
-able : (c : In_default-close_refusal) → let a = c.args in
-    Closable a.l (length a.slots.now) a.marks.now (length a.y.now) a.row
-able c = closable _ _ _ _ _ (check_passed c.close_refusal.ensures c.in_default-close_refusal.is)
-
 pub meet-requires : goal.meet-requires
-meet-requires c = let r = able c in (r.able.shape, r.row_in, r.able.has_room.slots_enough)
+meet-requires c = let r = closable _ _ _ _ _ (check_passed c.close_refusal.ensures c.in_default-close_refusal.is) in (r.able.shape, r.row_in, r.able.has_room.slots_enough)
 
 pub offset_bounds-y-row : goal.offset_bounds-y-row
-offset_bounds-y-row c = let r = able (record { before = c.before.before; type_inv = record { y = c.type_inv.y; marks = c.type_inv.marks; slots = c.type_inv.slots } }) in omega (arith, r.row_in, r.outputs_enough)
+offset_bounds-y-row c = let r = closable _ _ _ _ _ (check_passed c.close_refusal.ensures c.in_default-close_refusal.is) in omega (arith, r.row_in, r.outputs_enough)
 
 pub bounds-y-row : goal.bounds-y-row
-bounds-y-row c = let r = able (record { before = c.before.before; type_inv = record { y = c.type_inv.y; marks = c.type_inv.marks; slots = c.type_inv.slots } }) in omega (arith, r.row_in, r.outputs_enough)
+bounds-y-row c = let r = closable _ _ _ _ _ (check_passed c.close_refusal.ensures c.in_default-close_refusal.is) in omega (arith, r.row_in, r.outputs_enough)
 
 pub returns : goal.returns
 unfolding close_says

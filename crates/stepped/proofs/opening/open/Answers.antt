@@ -11,7 +11,6 @@ use Rattle.stepped_shape.specs.Layer.{pieces}
 use Rattle.stepped_shape.proofs.Shapes.{Openable, openable}
 use Rattle.stepped_shape.proofs.Says.{by_unknown, by_known}
 use Rattle.stepped.specs.Says.{no_sum, no_mark, open_says}
-use Rattle.stepped.proofs.opening.open.Goals.{In_default-open_refusal}
 use Rattle.stepped.proofs.opening.open.Goals as goal
 
 -- the front of n places was lent and is a table now
@@ -29,26 +28,22 @@ returns-in-Refused c =
     let f = p in
     refused_out _ _ p.open_refusal.ensures c.in-Refused.is ∙ by_known _ _ f.format_named.ensures f.in-Known.is
 
-able : (c : In_default-open_refusal) → let a = c.args in
-    Openable a.l (length a.slots.now) (length a.marks.now)
-able c = openable _ _ _ (check_passed c.open_refusal.ensures c.in_default-open_refusal.is)
-
 pub pieces_of-n-requires : goal.pieces_of-n-requires
-pieces_of-n-requires c = (able c).shape
+pieces_of-n-requires c = (openable _ _ _ (check_passed c.open_refusal.ensures c.in_default-open_refusal.is)).shape
 
 pub slice_bounds-clear_slots-end : goal.slice_bounds-clear_slots-end
-slice_bounds-clear_slots-end c = omega (arith, c.pieces_of-n.ensures, (able (record { before = c.before.before; type_inv = record { marks = c.type_inv.marks; slots = c.type_inv.slots } })).has_room.slots_enough)
+slice_bounds-clear_slots-end c = omega (arith, c.pieces_of-n.ensures, (openable _ _ _ (check_passed c.open_refusal.ensures c.in_default-open_refusal.is)).has_room.slots_enough)
 
 pub slice_bounds-clear_slots-end-2 : goal.slice_bounds-clear_slots-end-2
-slice_bounds-clear_slots-end-2 c = sym (length-take-le _ _ (slice_bounds-clear_slots-end (record { before = c.before.before; type_inv = record { marks = c.type_inv.marks; slots = c.type_inv.slots } })))
+slice_bounds-clear_slots-end-2 c = sym (length-take-le _ _ (omega (arith, c.pieces_of-n.ensures, (openable _ _ _ (check_passed c.open_refusal.ensures c.in_default-open_refusal.is)).has_room.slots_enough)))
 
 pub slice_bounds-clear_marks-end : goal.slice_bounds-clear_marks-end
 slice_bounds-clear_marks-end c =
     let k = c in
-    omega (arith, k.pieces_of-n.ensures, (able (record { before = c.before.before.before.before.before.before; type_inv = record { marks = c.type_inv.marks; slots = c.type_inv.slots } })).has_room.marks_enough)
+    omega (arith, k.pieces_of-n.ensures, (openable _ _ _ (check_passed c.open_refusal.ensures c.in_default-open_refusal.is)).has_room.marks_enough)
 
 pub slice_bounds-clear_marks-end-2 : goal.slice_bounds-clear_marks-end-2
-slice_bounds-clear_marks-end-2 c = sym (length-take-le _ _ (slice_bounds-clear_marks-end (record { before = c.before.before; type_inv = record { slots = c.type_inv.slots; marks = c.type_inv.marks } })))
+slice_bounds-clear_marks-end-2 c = sym (length-take-le _ _ (omega (arith, c.pieces_of-n.ensures, (openable _ _ _ (check_passed c.open_refusal.ensures c.in_default-open_refusal.is)).has_room.marks_enough)))
 
 pub returns : goal.returns
 unfolding open_says
@@ -60,7 +55,7 @@ returns c =
     let f = p in
     let a = f.args in
     let n = s.pieces_of-n in
-    let room = (able (record { before = c.before.before.before.before.before.before.before.before.before.before; type_inv = record { marks = c.type_inv.marks; slots = c.type_inv.slots } })).has_room in
+    let room = (openable _ _ _ (check_passed c.open_refusal.ensures c.in_default-open_refusal.is)).has_room in
     rw (
       front_filled no_sum a.slots.now s.clear_slots.new.slots n.result (pieces a.l) n.ensures (omega (arith, n.ensures, room.slots_enough)) s.clear_slots.ensures,
       front_filled no_mark a.marks.now m.clear_marks.new.marks n.result (pieces a.l) n.ensures (omega (arith, n.ensures, room.marks_enough)) m.clear_marks.ensures,

@@ -12,7 +12,6 @@ use Rattle.stepped_shape.proofs.Shapes.{workable, few_pieces}
 use Rattle.stepped_shape.proofs.Says.{by_unknown, by_known}
 use Rattle.stepped.specs.Says.{work, run_says}
 use Rattle.stepped.proofs.Counts.{run_done}
-use Rattle.stepped.proofs.running.run.Goals.{In_default-work_refusal}
 use Rattle.stepped.proofs.running.run.Goals as goal
 
 pub returns-in_default : goal.returns-in_default
@@ -27,29 +26,23 @@ returns-in-Refused c =
     sym (carried_refused _ _ _ _ (else_first _ _ _ (check_refused p.work_refusal.ensures c.in-Refused.is)))
     ∙ by_known _ _ f.format_named.ensures f.in-Known.is
 
-able : (c : In_default-work_refusal) → let f = c in let a = f.args in
-    work_refusal f.in-Known.format a.l (length a.w.now) (length a.x.now) (length a.slots.now) (length a.marks.now) ≡ done
-able c = check_passed c.work_refusal.ensures c.in_default-work_refusal.is
-
 pub work_open-done-requires : goal.work_open-done-requires
-work_open-done-requires c = let r = workable _ _ _ _ _ _ (able (record { before = c.before.before.before; type_inv = record { marks = c.type_inv.marks; slots = c.type_inv.slots; x = c.type_inv.x; w = c.type_inv.w } })) in (r.ready, r.has_room)
+work_open-done-requires c = let r = workable _ _ _ _ _ _ (check_passed c.work_refusal.ensures c.in_default-work_refusal.is) in (r.ready, r.has_room)
 
 pub pieces_of-n-requires : goal.pieces_of-n-requires
-pieces_of-n-requires c = (workable _ _ _ _ _ _ (able (record { before = c.before.before.before.before.before.before.before.before; type_inv = record { marks = c.type_inv.marks; slots = c.type_inv.slots; x = c.type_inv.x; w = c.type_inv.w } }))).ready.shape
+pieces_of-n-requires c = (workable _ _ _ _ _ _ (check_passed c.work_refusal.ensures c.in_default-work_refusal.is)).ready.shape
 
 pub slice_bounds-count_open-end : goal.slice_bounds-count_open-end
-slice_bounds-count_open-end c =
-    let k = c in
-    omega (arith, c.pieces_of-n.ensures, k.work_open-done.auto.1.1.1.1.1.1.0, (workable _ _ _ _ _ _ (able (record { before = c.before.before.before.before.before.before.before.before.before; type_inv = record { marks = c.type_inv.marks; slots = c.type_inv.slots; x = c.type_inv.x; w = c.type_inv.w } }))).has_room.marks_enough)
+slice_bounds-count_open-end c = omega (arith, c.pieces_of-n.ensures, c.work_open-done.auto.marks, (workable _ _ _ _ _ _ (check_passed c.work_refusal.ensures c.in_default-work_refusal.is)).has_room.marks_enough)
 
 pub slice_bounds-count_open-end-2 : goal.slice_bounds-count_open-end-2
-slice_bounds-count_open-end-2 c = sym (length-take-le _ _ (slice_bounds-count_open-end (record { before = c.before.before; type_inv = record { marks = c.type_inv.marks; slots = c.type_inv.slots; x = c.type_inv.x; w = c.type_inv.w } })))
+slice_bounds-count_open-end-2 c = sym (length-take-le _ _ (omega (arith, c.pieces_of-n.ensures, c.work_open-done.auto.marks, (workable _ _ _ _ _ _ (check_passed c.work_refusal.ensures c.in_default-work_refusal.is)).has_room.marks_enough)))
 
 pub count_open-left-requires : goal.count_open-left-requires
 count_open-left-requires c =
-    let k = c in
-    let few = few_pieces _ (workable _ _ _ _ _ _ (able k)).ready.shape in
-    rw (length-take-le _ _ (slice_bounds-count_open-end (record { before = c.before.before; type_inv = record { marks = c.type_inv.marks; slots = c.type_inv.slots; x = c.type_inv.x; w = c.type_inv.w } }))) (omega (arith, k.pieces_of-n.ensures, few))
+    let r = workable _ _ _ _ _ _ (check_passed c.work_refusal.ensures c.in_default-work_refusal.is) in
+    rw (length-take-le c.pieces_of-n.result c.work_open-done.new.marks (omega (arith, c.pieces_of-n.ensures, c.work_open-done.auto.marks, r.has_room.marks_enough)))
+    (omega (arith, c.pieces_of-n.ensures, few_pieces _ r.ready.shape))
 
 pub returns : goal.returns
 unfolding open_of
@@ -61,4 +54,4 @@ returns c =
     let a = f.args in
     let left = c.count_open-left.ensures ∙ ap (λ (n : ℕ). open_count (take n k.work_open-done.new.marks)) p.pieces_of-n.ensures in
     run_done _ a.l a.w.now a.x.now a.budget (memory a.slots.now a.marks.now) (work (memory _ _) _) _
-    f.format_named.ensures f.in-Known.is (able e) k.work_open-done.ensures left
+    f.format_named.ensures f.in-Known.is (check_passed c.work_refusal.ensures c.in_default-work_refusal.is) k.work_open-done.ensures left

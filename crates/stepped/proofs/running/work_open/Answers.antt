@@ -1,14 +1,14 @@
 -- `running::work_open` meets its contract: each loop keeps the state that the visits so far give. Assumes nothing.
 use native.Mathlib.Omega.{arith}
-use mathlib.Core.Logic.{⊎_elim}
 use mathlib.Core.Path.{◌≡◌, refl, sym, ◌∙◌, ap}
-use Prim.Native.Nat.{◌<◌, ◌-◌}
-use Rattle.stepped_shape.specs.Layer.{memory}
+use Prim.Native.Nat.{ℕ, ◌<◌, ◌-◌}
+use Rattle.stepped_shape.specs.declared.shape.Layer.{Layer}
+use Rattle.stepped_shape.specs.Layer.{memory, chunks}
 use Rattle.stepped_shape.specs.Inner.{InLayer}
 use Rattle.stepped_shape.proofs.Shapes.{place_within}
 use Rattle.stepped.specs.Says.{work, visit_row, visit_rows, run_work}
 use Rattle.stepped.proofs.Runs.{kept_open, kept_done, kept_row, stopped, ne_lt}
-use Rattle.stepped.proofs.running.work_open.Goals.{At-loop-chunk, At-rows, Else-done-budget, Start}
+use Rattle.stepped.proofs.running.work_open.Goals.{then-marks-at-eq0, else-marks-at-eq0}
 use Rattle.stepped.proofs.running.work_open.Goals as goal
 
 pub rows-init : goal.rows-init
@@ -19,63 +19,51 @@ pub loop-chunk-init : goal.loop-chunk-init
 unfolding visit_row
 loop-chunk-init c = (omega arith, record { slots_len = refl; marks_len = refl; few = c.rows.invariant.1.few; state = refl })
 
--- the places, back from the first test in the inner loop
-abbrev start : Else-done-budget → Start
-start c = c.before.before.before.before.before.before.before.before.before.before.before
-
-abbrev outer : Else-done-budget → At-rows
-outer c = (record { before = c.before.before.before.before.before; type_inv = record { x = c.type_inv.x; w = c.type_inv.w } })
-
-abbrev inner : Else-done-budget → At-loop-chunk
-inner c = (record { before = c.before.before.before; type_inv = record { x = c.type_inv.x; w = c.type_inv.w } })
-
-inside : (c : Else-done-budget) → InLayer (start c).args.l (outer c).rows.row (inner c).loop.chunk
-inside c = record { row_in = c.rows-test.true; chunk_in = omega (arith, (outer c).before.chunks_of.ensures, c.loop-chunk-test.true) }
-
-fewer : (c : Else-done-budget) → (inner c).loop.done < (start c).args.budget
-fewer c = ne_lt _ _ (inner c).loop.invariant.1.few c.if-done-budget.false
-
 pub place_of-at-requires : goal.place_of-at-requires
-place_of-at-requires c = ((start c).requires.0.shape, inside c)
+place_of-at-requires c = (c.requires.0.shape, record { row_in = c.rows-test.true; chunk_in = omega (arith, c.chunks_of-chunks.ensures, c.loop-chunk-test.true) })
+
+-- the piece that is looked at
+inside : (l : Layer) (row chunk n : ℕ) → row < l.out_feat → n ≡ chunks l → chunk < n → InLayer l row chunk
+inside l row chunk n h e k = record { row_in = h; chunk_in = omega (arith, e, k) }
 
 pub bounds-marks-at : goal.bounds-marks-at
 bounds-marks-at c =
-    let e = c in
-    omega (arith, c.place_of-at.ensures, place_within _ _ _ (inside (record { before = c.before.before.before; type_inv = record { x = c.type_inv.x; w = c.type_inv.w } })), (start (record { before = c.before.before.before; type_inv = record { x = c.type_inv.x; w = c.type_inv.w } })).requires.1.marks_enough, (inner (record { before = c.before.before.before; type_inv = record { x = c.type_inv.x; w = c.type_inv.w } })).loop.invariant.1.marks_len, (outer (record { before = c.before.before.before; type_inv = record { x = c.type_inv.x; w = c.type_inv.w } })).rows.invariant.1.marks_len)
+    let i = inside _ _ _ _ c.rows-test.true c.chunks_of-chunks.ensures c.loop-chunk-test.true in
+    omega (arith, c.place_of-at.ensures, place_within _ _ _ i, c.requires.1.marks_enough, c.loop-chunk.invariant.1.marks_len, c.rows.invariant.1.marks_len)
 
 pub work_one-requires : goal.work_one-requires
 work_one-requires c =
-    let e = c in
-    let p = (start (record { before = c.before.before.before.before.before.before; type_inv = record { x = c.type_inv.x; w = c.type_inv.w } })).requires in (
-      p.0,
+    let o = c.rows.invariant.1 in
+    let i = c.loop-chunk.invariant.1 in (
+      c.requires.0,
       record {
-        slots_enough = omega (arith, p.1.slots_enough, (inner (record { before = c.before.before.before.before.before.before; type_inv = record { x = c.type_inv.x; w = c.type_inv.w } })).loop.invariant.1.slots_len, (outer (record { before = c.before.before.before.before.before.before; type_inv = record { x = c.type_inv.x; w = c.type_inv.w } })).rows.invariant.1.slots_len);
-        marks_enough = omega (arith, p.1.marks_enough, (inner (record { before = c.before.before.before.before.before.before; type_inv = record { x = c.type_inv.x; w = c.type_inv.w } })).loop.invariant.1.marks_len, (outer (record { before = c.before.before.before.before.before.before; type_inv = record { x = c.type_inv.x; w = c.type_inv.w } })).rows.invariant.1.marks_len);
+        slots_enough = omega (arith, c.requires.1.slots_enough, i.slots_len, o.slots_len);
+        marks_enough = omega (arith, c.requires.1.marks_enough, i.marks_len, o.marks_len);
       },
-      inside (record { before = c.before.before.before.before.before.before; type_inv = record { x = c.type_inv.x; w = c.type_inv.w } }),
+      inside _ _ _ _ c.rows-test.true c.chunks_of-chunks.ensures c.loop-chunk-test.true,
     )
 
 pub overflow_add-done : goal.overflow_add-done
-overflow_add-done c =
-    let e = c in
-    omega (arith, fewer (record { before = c.before.before.before.before.before.before.before.before.before.before.before; type_inv = record { x = c.type_inv.x; w = c.type_inv.w } }), (start (record { before = c.before.before.before.before.before.before.before.before.before.before.before; type_inv = record { x = c.type_inv.x; w = c.type_inv.w } })).ranges.budget)
+overflow_add-done c = omega (arith, ne_lt _ _ c.loop-chunk.invariant.1.few c.if-done-budget.false, c.ranges.budget)
 
 pub loop-chunk-preserved : goal.loop-chunk-preserved
 loop-chunk-preserved c =
-    let e = c in
-    let a = (start (record { before = c.before.before.before.before; type_inv = record { x = c.type_inv.x; w = c.type_inv.w } })).args in
-    let o = (outer (record { before = c.before.before.before.before; type_inv = record { x = c.type_inv.x; w = c.type_inv.w } })).rows in
-    let i = (inner (record { before = c.before.before.before.before; type_inv = record { x = c.type_inv.x; w = c.type_inv.w } })).loop in
+    let a = c.args in
+    let o = c.rows in
+    let i = c.loop-chunk in
     let b = work (memory o.slots o.marks) o.done in
     let k = work (memory i.slots i.marks) i.done in
+    let fewer = ne_lt _ _ i.invariant.1.few c.if-done-budget.false in
     let at = c.place_of-at.ensures.0 in (
       omega arith,
-      ⊎_elim
-          (λ q. simp (q.8, q.9, q.10, q.3.ensures)
-          (kept_open a.format a.l a.w.now a.x.now a.budget b.holds k o.row i.chunk b i.inv.1 (fewer (record { before = c.before.before.before.before; type_inv = record { x = c.type_inv.x; w = c.type_inv.w } })) (simp at at q.0.taken)))
-          (λ q. simp (q.1, q.2, q.3)
-          (kept_done a.format a.l a.w.now a.x.now a.budget b.holds k o.row i.chunk b i.inv.1 (fewer (record { before = c.before.before.before.before; type_inv = record { x = c.type_inv.x; w = c.type_inv.w } })) (simp at at q.0.left)))
-          c.if-marks-at-eq0.branch,
+      elim c.if-marks-at-eq0.branch [
+        | then-marks-at-eq0 q ↦
+            simp (q.slots-is, q.marks-is, q.done-is, q.work_one.ensures)
+            (kept_open a.format a.l a.w.now a.x.now a.budget b.holds k o.row i.chunk b i.invariant.1 fewer (simp at at q.if-marks-at-eq0.true))
+        | else-marks-at-eq0 q ↦
+            simp (q.slots-is, q.marks-is, q.done-is)
+            (kept_done a.format a.l a.w.now a.x.now a.budget b.holds k o.row i.chunk b i.invariant.1 fewer (simp at at q.if-marks-at-eq0.false))
+      ],
     )
 
 pub rows-preserved : goal.rows-preserved

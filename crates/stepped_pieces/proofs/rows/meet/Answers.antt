@@ -3,7 +3,7 @@ use native.Mathlib.Nat.{add-zero}
 use native.Mathlib.Omega.{arith}
 use mathlib.Core.Path.{◌≡◌, refl, sym, ap, ◌∙◌}
 use mathlib.Core.List.{List}
-use Prim.Native.Nat.{ℕ, ◌≤◌, ◌+◌, ◌-◌, ◌*◌}
+use Prim.Native.Nat.{ℕ, ◌≤◌, ◌<◌, ◌+◌, ◌-◌, ◌*◌}
 use lib.ListN.{length, get_or, take, drop}
 use lib.Seq.{take_at, length-take-le}
 use lib.Ieee.{Float, nan}
@@ -13,28 +13,29 @@ use Rattle.sums_tree.specs.Tree.{pair_up, met, tree}
 use Rattle.stepped_shape.specs.Layer.{chunks, pieces, place}
 use Rattle.stepped_shape.proofs.Shapes.{row_within, few_chunks, few_pieces}
 use Rattle.stepped_pieces.specs.Pieces.{row_met}
-use Rattle.stepped_pieces.proofs.rows.meet.Goals.{After-chunks_of-n}
+use Rattle.refusals.specs.Said.{done}
+use Rattle.stepped_shape.specs.declared.shape.Layer.{Layer}
+use Rattle.stepped_shape.specs.Refusals.{shape_refusal}
 use Rattle.stepped_pieces.proofs.rows.meet.Goals as goal
 
 pub chunks_of-n-requires : goal.chunks_of-n-requires
 chunks_of-n-requires c = c.requires.0
 
 -- the row's slots lie within the layer's, and there are 16 at most
-row_in : (c : After-chunks_of-n) → let a = c.args in
-    (a.row * c.chunks_of-n.result + c.chunks_of-n.result ≤ length a.slots.now) × (c.chunks_of-n.result ≤ 16) × (pieces a.l ≤ 1048576)
-row_in c =
-    let t = c in
-    let r : t.args.row * c.chunks_of-n.result + c.chunks_of-n.result ≤ pieces t.args.l = simp c.chunks_of-n.ensures (row_within t.args.l t.args.row t.requires.1) in
-    (omega (arith, r, t.requires.2), omega (arith, c.chunks_of-n.ensures, few_chunks _ t.requires.0), few_pieces _ t.requires.0)
+row_in : (l : Layer) (row n room : ℕ) → n ≡ chunks l → shape_refusal l ≡ done → row < l.out_feat → pieces l ≤ room
+    → (row * n + n ≤ room) × (n ≤ 16) × (pieces l ≤ 1048576)
+row_in l row n room e shape inside enough =
+    let r : row * n + n ≤ pieces l = simp e (row_within l row inside) in
+    (omega (arith, r, enough), omega (arith, e, few_chunks l shape), few_pieces l shape)
 
 pub overflow_mul-at : goal.overflow_mul-at
-overflow_mul-at c = omega (arith, row_in c)
+overflow_mul-at c = omega (arith, row_in _ _ _ _ c.chunks_of-n.ensures c.requires.0 c.requires.1 c.requires.2)
 
 pub offset_bounds-slots-at : goal.offset_bounds-slots-at
-offset_bounds-slots-at c = omega (arith, row_in (record { before = c.before.before; type_inv = record { slots = c.type_inv.slots } }))
+offset_bounds-slots-at c = omega (arith, row_in _ _ _ _ c.chunks_of-n.ensures c.requires.0 c.requires.1 c.requires.2)
 
 pub bounds-slots-at : goal.bounds-slots-at
-bounds-slots-at c = omega (arith, row_in (record { before = c.before.before.before; type_inv = record { slots = c.type_inv.slots } }))
+bounds-slots-at c = omega (arith, row_in _ _ _ _ c.chunks_of-n.ensures c.requires.0 c.requires.1 c.requires.2)
 
 -- one value is its own tree
 tree_of_one : (f : ℕ → Float) (n : ℕ) → n ≡ 1 → tree (table f n) ≡ f 0
@@ -59,33 +60,35 @@ pub loop-c-init : goal.loop-c-init
 loop-c-init c = (omega arith, filling_start _ _ 16 refl)
 
 pub overflow_add-sums : goal.overflow_add-sums
-overflow_add-sums c = omega (arith, row_in (record { before = c.before.before.before.before; type_inv = record { slots = c.type_inv.slots } }))
+overflow_add-sums c = omega (arith, row_in _ _ _ _ c.chunks_of-n.ensures c.requires.0 c.requires.1 c.requires.2)
 
 pub offset_bounds-slots-at-in-loop-c : goal.offset_bounds-slots-at-in-loop-c
-offset_bounds-slots-at-in-loop-c c = omega (arith, row_in (record { before = c.before.before.before.before; type_inv = record { slots = c.type_inv.slots } }))
+offset_bounds-slots-at-in-loop-c c = omega (arith, row_in _ _ _ _ c.chunks_of-n.ensures c.requires.0 c.requires.1 c.requires.2)
 
 pub bounds-slots-at-in-loop-c : goal.bounds-slots-at-in-loop-c
-bounds-slots-at-in-loop-c c = omega (arith, row_in (record { before = c.before.before.before.before.before; type_inv = record { slots = c.type_inv.slots } }))
+bounds-slots-at-in-loop-c c = omega (arith, row_in _ _ _ _ c.chunks_of-n.ensures c.requires.0 c.requires.1 c.requires.2)
 
 pub offset_bounds-sums-c : goal.offset_bounds-sums-c
-offset_bounds-sums-c c = omega (arith, row_in (record { before = c.before.before.before.before.before; type_inv = record { slots = c.type_inv.slots } }))
+offset_bounds-sums-c c = omega (arith, row_in _ _ _ _ c.chunks_of-n.ensures c.requires.0 c.requires.1 c.requires.2)
 
 pub bounds-sums-c : goal.bounds-sums-c
-bounds-sums-c c = omega (arith, row_in (record { before = c.before.before.before.before.before; type_inv = record { slots = c.type_inv.slots } }))
+bounds-sums-c c = omega (arith, row_in _ _ _ _ c.chunks_of-n.ensures c.requires.0 c.requires.1 c.requires.2)
 
 pub overflow_add-c : goal.overflow_add-c
-overflow_add-c c = omega (arith, row_in (record { before = c.before.before.before.before.before; type_inv = record { slots = c.type_inv.slots } }))
+overflow_add-c c = omega (arith, row_in _ _ _ _ c.chunks_of-n.ensures c.requires.0 c.requires.1 c.requires.2)
 
 pub loop-c-preserved : goal.loop-c-preserved
 loop-c-preserved c =
     let k = c in
-    (omega arith, filling_more _ _ 16 k.loop-c.sums k.loop-c.c _ refl k.loop-c.invariant.1 (omega (arith, row_in (record { before = c.before.before.before.before.before; type_inv = record { slots = c.type_inv.slots } }))) refl)
+    (omega arith, filling_more _ _ 16 k.loop-c.sums k.loop-c.c _ refl k.loop-c.invariant.1 (omega (arith, row_in _ _ _ _ c.chunks_of-n.ensures c.requires.0 c.requires.1 c.requires.2)) refl)
 
 pub slice_bounds-sums-end : goal.slice_bounds-sums-end
-slice_bounds-sums-end c = let k = c in omega (arith, row_in (record { before = c.before.before.before.before; type_inv = record { slots = c.type_inv.slots } }), k.loop-c.invariant.1.2)
+slice_bounds-sums-end c = let k = c in omega (arith, row_in _ _ _ _ c.chunks_of-n.ensures c.requires.0 c.requires.1 c.requires.2, k.loop-c.invariant.1.2)
 
 pub slice_bounds-canonical_combine-end : goal.slice_bounds-canonical_combine-end
-slice_bounds-canonical_combine-end c = sym (length-take-le _ _ (slice_bounds-sums-end (record { before = c.before.before; type_inv = record { sums = c.type_inv.sums; slots = c.type_inv.slots } })))
+slice_bounds-canonical_combine-end c =
+    let room : c.chunks_of-n.result ≤ length c.loop-c.sums = omega (arith, row_in _ _ _ _ c.chunks_of-n.ensures c.requires.0 c.requires.1 c.requires.2, c.loop-c.invariant.1.2) in
+    sym (length-take-le _ _ room)
 
 pub returns : goal.returns
 unfolding row_met place
