@@ -16,40 +16,40 @@ use Rattle.dots_activation.specs.Whole.{sum_ℤ, Within}
 use Rattle.dots_activation.proofs.Magnitudes.{within, pos_within, add_within, mul_within, fits_within, within_width}
 use Rattle.dots_activation.proofs.Ranges.{sum_more}
 
--- ---- the local whose bits are s holds the sum of the first k terms, each of them within B
+-- ---- the local that holds s, by a width w, holds the sum of the first k terms, each of them within B
 
-pub record Acc (w : Width) (f : ℕ → ℤ) (B k s : ℕ) : Type 0 where
-  pub sum : to_z w s ≡ sum_ℤ f k
-  pub near : Within (k * B) (to_z w s)
+pub record Acc (w : Width) (f : ℕ → ℤ) (B k : ℕ) (s : ℤ) : Type 0 where
+  pub sum : s ≡ sum_ℤ f k
+  pub near : Within (k * B) s
 
-pub acc_none : (w : Width) (f : ℕ → ℤ) (B : ℕ) → Acc w f B 0 0
+pub acc_none : (w : Width) (f : ℕ → ℤ) (B : ℕ) → Acc w f B 0 (to_z w 0)
 unfolding sum_ℤ
 acc_none w f B = let e : to_z w 0 ≡ pos 0 = to_z_pos w 0 (pow_pos (hbits w)) in record { sum = e; near = rw e (pos_within (omega arith)) }
 
 -- one more term, x
-module _ {w : Width} {f : ℕ → ℤ} {B k s : ℕ} {x : ℤ} (N : ℕ) (a : Acc w f B k s) (e : x ≡ f k) (b : Within B (f k)) (h : k < N) (t : T (ltb (N * B) (2 ^ hbits w))) where
-  near' : Within ((k + 1) * B) (to_z w s +ℤ x)
+module _ {w : Width} {f : ℕ → ℤ} {B k : ℕ} {s x : ℤ} (N : ℕ) (a : Acc w f B k s) (e : x ≡ f k) (b : Within B (f k)) (h : k < N) (t : T (ltb (N * B) (2 ^ hbits w))) where
+  near' : Within ((k + 1) * B) (s +ℤ x)
   near' = rw (add-one, suc-mul, e) (add_within a.near b)
 
-  pub acc_fits : SFits w (to_z w s +ℤ x)
+  pub acc_fits : SFits w (s +ℤ x)
   acc_fits = fits_within (within near' (mul-le-mul_right B (omega arith))) t
 
-  pub acc_more : Acc w f B (k + 1) (of_z w (to_z w s +ℤ x))
+  pub acc_more : Acc w f B (k + 1) (to_z w (of_z w (s +ℤ x)))
   acc_more =
-      let r : to_z w (of_z w (to_z w s +ℤ x)) ≡ to_z w s +ℤ x = to_z-of_z w (to_z w s +ℤ x) acc_fits in
+      let r : to_z w (of_z w (s +ℤ x)) ≡ s +ℤ x = to_z-of_z w (s +ℤ x) acc_fits in
       record { sum = r ∙ ap (λ y. y +ℤ x) a.sum ∙ ap (λ y. sum_ℤ f k +ℤ y) e ∙ sym (sum_more f k); near = subst (Within ((k + 1) * B)) (sym r) near' }
 
 -- one more term, the result r of a call
-module _ {w : Width} {f : ℕ → ℤ} {B k s : ℕ} {r : ℤ} (N : ℕ) (a : Acc w f B k s) (ok : mag r < 2 ^ hbits w) (e : r ≡ f k) (b : Within B r) (h : k < N) (t : T (ltb (N * B) (2 ^ hbits w))) where
-  pub call_fits : SFits w (to_z w s +ℤ to_z w (of_z w r))
+module _ {w : Width} {f : ℕ → ℤ} {B k : ℕ} {s r : ℤ} (N : ℕ) (a : Acc w f B k s) (ok : mag r < 2 ^ hbits w) (e : r ≡ f k) (b : Within B r) (h : k < N) (t : T (ltb (N * B) (2 ^ hbits w))) where
+  pub call_fits : SFits w (s +ℤ to_z w (of_z w r))
   call_fits = acc_fits N a (read_is w r ok ∙ e) (subst (Within B) e b) h t
 
-  pub call_more : Acc w f B (k + 1) (of_z w (to_z w s +ℤ to_z w (of_z w r)))
+  pub call_more : Acc w f B (k + 1) (to_z w (of_z w (s +ℤ to_z w (of_z w r))))
   call_more = acc_more N a (read_is w r ok ∙ e) (subst (Within B) e b) h t
 
 -- once all N terms are in
-pub acc_all : {w : Width} {f : ℕ → ℤ} {B k s : ℕ} (N : ℕ) → Acc w f B k s → k ≡ N → (to_z w s ≡ sum_ℤ f N) × Within (N * B) (to_z w s)
-acc_all {w} {f} {B} {k} {s} N a e = (a.sum ∙ ap (sum_ℤ f) e, subst (λ (n : ℕ). Within (n * B) (to_z w s)) e a.near)
+pub acc_all : {w : Width} {f : ℕ → ℤ} {B k : ℕ} {s : ℤ} (N : ℕ) → Acc w f B k s → k ≡ N → (s ≡ sum_ℤ f N) × Within (N * B) s
+acc_all {w} {f} {B} {k} {s} N a e = (a.sum ∙ ap (sum_ℤ f) e, subst (λ (n : ℕ). Within (n * B) s) e a.near)
 
 -- ---- a number that a wider width takes
 

@@ -91,14 +91,15 @@ lt_size {x} {y} {k} {l} (finite p a) infinite = rw p.shape (sym (lt-ltb k (2 ^ 2
 lt_size {x} {y} {k} {l} (finite p a) (finite q b) =
     lt_is p q ∙ alike (k * 2 ^ 149) (l * 2 ^ 149) k l (mul-le-mul_right (2 ^ 149)) (λ h. le_of_mul-le-mul_right h (pow_pos 149))
 
-same_float : {x y : Float} {k : ℕ} → T (fits binary32 x) → T (fits binary32 y) → Size x k → Size y k → x ≡ y
-same_float s t infinite infinite = refl
-same_float s t infinite (finite b h) = absurd (lt_irrefl (2 ^ 277) h)
-same_float s t (finite a h) infinite = absurd (lt_irrefl (2 ^ 277) h)
-same_float {x} {y} {k} s t (finite a g) (finite b h) = same_value binary32 x y false k (2 ^ 149) k (2 ^ 149) s t (pow_pos 149) (pow_pos 149) (to_value a) (to_value b) refl
+-- (the two numbers of units are apart here, so that no case has to compare 2 ^ 277 with itself)
+same_float : {x y : Float} {k l : ℕ} → T (fits binary32 x) → T (fits binary32 y) → Size x k → Size y l → k ≡ l → x ≡ y
+same_float s t infinite infinite e = refl
+same_float s t infinite (finite b h) e = absurd (lt_irrefl (2 ^ 277) (subst (λ (n : ℕ). n < 2 ^ 277) (sym e) h))
+same_float s t (finite a h) infinite e = absurd (lt_irrefl (2 ^ 277) (subst (λ (n : ℕ). n < 2 ^ 277) e h))
+same_float {x} {y} {k} {l} s t (finite a g) (finite b h) e = same_value binary32 x y false k (2 ^ 149) l (2 ^ 149) s t (pow_pos 149) (pow_pos 149) (to_value a) (to_value b) (ap (λ (n : ℕ). n * 2 ^ 149) e)
 
 pub same_size : {x y : Float} {k : ℕ} → Measured x k → Measured y k → x ≡ y
-same_size p q = same_float p.held q.held p.size q.size
+same_size p q = same_float p.held q.held p.size q.size refl
 
 -- the number is that of the float
 pub units_are : {x : Float} {k : ℕ} → Measured x k → units_of x ≡ k

@@ -1,6 +1,5 @@
 -- `nibbles_iq4_nl` meets its contract: the places are filled in turn. Assumes nothing.
 use mathlib.Core.Path.{refl}
-use Prim.Native.Nat.{◌-◌}
 use lib.ListN.{replicate}
 use Rattle.memory.proofs.Filled.{filling_start, filling_more, filling_done}
 use Rattle.nearest.proofs.nibbles_iq4_nl.Invariants.{nibble}

@@ -1,17 +1,16 @@
 -- `block::count_serves` meets its contract. Assumes nothing.
 use mathlib.Core.Path.{◌≡◌, sym, ap, ◌∙◌}
 use mathlib.Core.Bool.{Bool, false, cond}
-use mathlib.Core.Logic.{⊎_elim}
 use Prim.Native.Nat.{min}
 use native.Mathlib.Omega.{arith}
 use borrow.Author.Tests.{eq-eqb, ne_eqb}
 use Rattle.dots_activation.specs.Blocks.{zeros_past, count_serves}
-use Rattle.dots_activation.proofs.block.count_serves.Goals.{Joined-n-gt256}
+use Rattle.dots_activation.proofs.block.count_serves.Goals.{Joined-n-gt256, then-n-gt256, else-n-gt256}
 use Rattle.dots_activation.proofs.block.count_serves.Goals as goal
 
 -- the places that are asked for
 held : (c : Joined-n-gt256) → c.if-n-gt256.places ≡ min c.args.n 256
-held c = ⊎_elim (λ w. omega arith) (λ w. omega arith) c.if-n-gt256.branch
+held c = elim c.if-n-gt256.branch [ then-n-gt256 w ↦ omega arith | else-n-gt256 w ↦ omega arith ]
 
 pub returns-then-places-count : goal.returns-then-places-count
 unfolding count_serves

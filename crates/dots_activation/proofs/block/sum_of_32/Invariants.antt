@@ -1,6 +1,6 @@
 -- `block::sum_of_32` meets its contract: 8 turns of two pairs, each turn within 512. Assumes nothing.
 use Prim.Native.Nat.{ℕ, ◌+◌, ◌*◌, ◌-◌, ◌≤◌}
-use lib.IntN.{ℤ, ◌+ℤ◌}
+use lib.IntN.{◌+ℤ◌}
 use mir.Syntax.{w16}
 use Rattle.dots_activation.specs.Whole.{elem}
 use Rattle.dots_activation.proofs.Loops.{Acc}

@@ -1,6 +1,5 @@
 -- `block::sums_of` meets its contract. Assumes nothing.
 use mathlib.Core.Path.{refl, ◌∙◌}
-use Prim.Native.Nat.{◌-◌}
 use native.Mathlib.Omega.{arith}
 use mir.Syntax.{w16, w32}
 use Rattle.memory.proofs.Filled.{filling_start, filling_more, filling_done}

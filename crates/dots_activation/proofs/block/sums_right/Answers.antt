@@ -1,13 +1,11 @@
 -- `block::sums_right` meets its contract: every sum passed is right. Assumes nothing.
 use mathlib.Core.Path.{◌≡◌, sym, ap, ◌∙◌, subst}
-use mathlib.Core.Bool.{true, false≢true}
-use Prim.Native.Nat.{◌-◌}
+use mathlib.Core.Bool.{false≢true}
 use native.Mathlib.Omega.{arith}
 use borrow.Author.Count.{below_none, below_more}
 use mir.Syntax.{w16, w32}
 use mir.Val.{to_z, of_z}
 use mir.ValLaws.{to_z-of_z}
-use Rattle.memory.specs.Lists.{every}
 use Rattle.memory.proofs.Every.{every_none, every_more, every_not}
 use Rattle.numbers.proofs.Signed.{read_is}
 use Rattle.dots_activation.specs.Whole.{elem, Within}

@@ -3,7 +3,6 @@ use mathlib.Core.Path.{◌≡◌}
 use Prim.Native.Nat.{◌-◌, ◌≤◌}
 use Rattle.memory.specs.Lists.{every}
 use Rattle.dots_activation.specs.Blocks.{past_is_zero}
-use Rattle.dots_activation.proofs.Past.{past_is}
 use Rattle.dots_activation.proofs.block.zeros_past.Given as goal
 
 abbrev pub invariant-loop-i : goal.invariant-loop-i

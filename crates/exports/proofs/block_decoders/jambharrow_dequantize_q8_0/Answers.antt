@@ -3,4 +3,4 @@ use Rattle.exports.proofs.Handed.{handed}
 use Rattle.exports.proofs.block_decoders.jambharrow_dequantize_q8_0.Goals as goal
 
 pub returns : goal.returns
-returns c = handed _ _ _ _ c.number_of_lem.ensures c.dequantize_q8_0.ensures
+returns c = handed _ _ _ _ c.number_of.ensures c.dequantize_q8_0.ensures

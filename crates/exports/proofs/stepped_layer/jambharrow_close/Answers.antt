@@ -3,4 +3,4 @@ use Rattle.exports.proofs.Handed.{handed}
 use Rattle.exports.proofs.stepped_layer.jambharrow_close.Goals as goal
 
 pub returns : goal.returns
-returns c = handed _ _ _ _ c.number_of_lem.ensures c.close.ensures
+returns c = handed _ _ _ _ c.number_of.ensures c.close.ensures

@@ -2,28 +2,23 @@
 use mathlib.Core.Path.{◌≡◌, refl}
 use mathlib.Core.List.{List}
 use mathlib.Core.Logic.{◌⊎◌, ⊎_elim}
-use native.Mathlib.Omega.{arith}
-use denote.Enum.Declared.{tag_of}
 use lib.Ieee.{Float, of_bits, neg}
 use Rattle.quantizers.specs.Blocks.{scale_q40, scale_of}
 use Rattle.quantizers.specs.declared.target.Target.{Target}
 use Rattle.quantizers.specs.declared.target.Target.TheVariants.{Q40, Q40Ggml, Q80, Iq4Nl}
-use Rattle.quantizers.specs.contracts.target.Target.{the_type}
 use Rattle.quantizers.proofs.block.scale_of.Goals as goal
 
 -- the arm of both orders of Q4_0
-of_q40 : (t : Target) (xs : List Float) → (tag_of the_type t ≡ 0) ⊎ (tag_of the_type t ≡ 1) → scale_q40 xs ≡ scale_of t xs
+of_q40 : (t : Target) (xs : List Float) → (t ≡ Q40) ⊎ (t ≡ Q40Ggml) → scale_q40 xs ≡ scale_of t xs
 unfolding scale_of
 of_q40 Q40 xs h = refl
 of_q40 Q40Ggml xs h = refl
-of_q40 Q80 xs h = absurd (⊎_elim (λ e. omega arith) (λ e. omega arith) h)
-of_q40 (Iq4Nl s) xs h = absurd (⊎_elim (λ e. omega arith) (λ e. omega arith) h)
+of_q40 Q80 xs h = absurd (⊎_elim (λ e. cc) (λ e. cc) h)
+of_q40 (Iq4Nl s) xs h = absurd (⊎_elim (λ e. cc) (λ e. cc) h)
 
 pub returns-in-Q40 : goal.returns-in-Q40
 unfolding neg of_bits
-returns-in-Q40 c =
-    let t = c in
-    rw (← of_q40 t.args.target t.args.x.now c.in-Q40.in-Q40-own.keys1, c.largest_value.ensures, t.requires)
+returns-in-Q40 c = rw (← of_q40 c.args.target c.args.x.now c.in-Q40.is, c.largest_value.ensures, c.requires)
 
 pub returns-in-Q80 : goal.returns-in-Q80
 unfolding scale_of

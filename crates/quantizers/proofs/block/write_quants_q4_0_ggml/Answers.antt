@@ -1,6 +1,5 @@
 -- `block::write_quants_q4_0_ggml` meets its contract: the places are filled in turn. Assumes nothing.
 use mathlib.Core.Path.{sym, ◌∙◌}
-use Prim.Native.Nat.{◌-◌}
 use Rattle.memory.proofs.Filled.{filling_start, filling_more, filling_done}
 use Rattle.quantizers.specs.declared.target.Target.TheVariants.{Q40Ggml}
 use Rattle.quantizers.proofs.Bytes.{written}

@@ -1,6 +1,5 @@
 -- `block::write_quants_q8_0` meets its contract: the places are filled in turn. Assumes nothing.
 use mathlib.Core.Path.{sym, ap, ◌∙◌}
-use Prim.Native.Nat.{◌-◌}
 use mir.Syntax.{w8}
 use Rattle.numbers.specs.Fields.{byte_of}
 use Rattle.numbers.proofs.Signed.{read_is}

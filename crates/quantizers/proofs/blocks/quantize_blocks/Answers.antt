@@ -1,6 +1,6 @@
 -- `blocks::quantize_blocks` meets its contract: in turn b block b is quantised into its own places, and its scale is counted. Assumes nothing.
 use mathlib.Core.Path.{◌≡◌, refl, sym, ap, ◌∙◌}
-use Prim.Native.Nat.{◌+◌, ◌-◌, ◌*◌, ◌/◌, ◌≤◌, ◌<◌}
+use Prim.Native.Nat.{ℕ, ◌+◌, ◌-◌, ◌*◌, ◌/◌, ◌≤◌, ◌<◌}
 use native.Mathlib.Nat.{zero-mul, suc-mul}
 use native.Mathlib.Numerals.{add-one}
 use lib.ListN.{length, take, drop}
@@ -11,105 +11,91 @@ use native.Mathlib.Omega.{arith}
 use Rattle.layouts.specs.Formats.{bytes32}
 use Rattle.quantizers.specs.Blocks.{format_of, byte_at}
 use Rattle.quantizers.specs.Lost.{counted, scale_fares, lost_in}
-use Rattle.quantizers.specs.Says.{packed_at}
+use Rattle.quantizers.specs.Says.{packed_at, bytes_for}
+use Rattle.layouts.specs.declared.format.Format32.{Format32}
+use Rattle.quantizers.specs.declared.target.Target.{Target}
 use Rattle.quantizers.specs.declared.lost.Lost.{Lost}
 use Rattle.quantizers.proofs.Bytes.{placed}
 use Rattle.quantizers.proofs.Counts.{one_more, at_most}
-use Rattle.quantizers.proofs.blocks.quantize_blocks.Goals.{After-block_bytes-size, In-loop-b}
 use Rattle.quantizers.proofs.blocks.quantize_blocks.Goals as goal
 
--- the size is that of the target's format
-size_is : (c : After-block_bytes-size) → c.block_bytes-size.result ≡ bytes32 (format_of c.args.target)
-size_is c = c.block_bytes-size.ensures ∙ ap bytes32 c.format_of.ensures
+-- block b's readings lie within the readings, its bytes lie within the output, and there are fewer blocks than readings
+facts : (t : Target) (b size n room : ℕ) {f : Format32} → size ≡ bytes32 f → f ≡ format_of t → bytes_for t n ≤ room → b < n / 32
+    → (b * 32 + 32 ≤ n) × (b * size + size ≤ room) × (b < n)
+facts t b size n room S f h k = part_within b 32 size n room k (rw (S, f) h)
 
 pub loop-b-init : goal.loop-b-init
 unfolding lost_in
-loop-b-init c =
-    let a = c.args in
-    (parts_none (packed_at a.target a.x.now) a.out.now (λ k. k * c.block_bytes-size.result) _ (zero-mul _), refl)
-
--- block b's readings lie within the readings, its bytes lie within the output, and there are fewer blocks than readings
-facts : (c : In-loop-b)
-    → (let b = c.loop-b.b in
-    let size = c.block_bytes-size.result in
-    let t = c in
-    (b * 32 + 32 ≤ length t.args.x.now) × (b * size + size ≤ length t.args.out.now) × (b < length t.args.x.now))
-facts c =
-    let t = c in
-    let size = c.block_bytes-size in
-    part_within c.loop-b.b 32 size.result (length t.args.x.now) (length t.args.out.now) c.loop-b-test.true (rw (size_is (record { before = c.before.before.before; type_inv = record { out = c.type_inv.out; x = c.type_inv.x } })) t.requires)
+loop-b-init c = (parts_none (packed_at c.args.target c.args.x.now) c.args.out.now (λ k. k * c.block_bytes-size.result) _ (zero-mul _), refl)
 
 pub overflow_mul-from : goal.overflow_mul-from
-overflow_mul-from c = omega (arith, facts c)
+overflow_mul-from c = omega (arith, facts c.args.target c.loop-b.b c.block_bytes-size.result (length c.args.x.now) (length c.args.out.now) c.block_bytes-size.ensures c.format_of.ensures c.requires c.loop-b-test.true)
 
 pub overflow_add-to : goal.overflow_add-to
-overflow_add-to c = omega (arith, facts c)
+overflow_add-to c = omega (arith, facts c.args.target c.loop-b.b c.block_bytes-size.result (length c.args.x.now) (length c.args.out.now) c.block_bytes-size.ensures c.format_of.ensures c.requires c.loop-b-test.true)
 
 pub overflow_mul-at : goal.overflow_mul-at
-overflow_mul-at c = omega (arith, facts c)
+overflow_mul-at c = omega (arith, facts c.args.target c.loop-b.b c.block_bytes-size.result (length c.args.x.now) (length c.args.out.now) c.block_bytes-size.ensures c.format_of.ensures c.requires c.loop-b-test.true)
 
 pub overflow_add-end : goal.overflow_add-end
-overflow_add-end c = omega (arith, facts c)
+overflow_add-end c = omega (arith, facts c.args.target c.loop-b.b c.block_bytes-size.result (length c.args.x.now) (length c.args.out.now) c.block_bytes-size.ensures c.format_of.ensures c.requires c.loop-b-test.true)
 
 pub offset_bounds-x-from : goal.offset_bounds-x-from
-offset_bounds-x-from c = omega (arith, facts c)
+offset_bounds-x-from c = omega (arith, facts c.args.target c.loop-b.b c.block_bytes-size.result (length c.args.x.now) (length c.args.out.now) c.block_bytes-size.ensures c.format_of.ensures c.requires c.loop-b-test.true)
 
 pub slice_bounds-quantize_block-count : goal.slice_bounds-quantize_block-count
-slice_bounds-quantize_block-count c = omega (arith, facts c)
+slice_bounds-quantize_block-count c = omega (arith, facts c.args.target c.loop-b.b c.block_bytes-size.result (length c.args.x.now) (length c.args.out.now) c.block_bytes-size.ensures c.format_of.ensures c.requires c.loop-b-test.true)
 
 pub slice_bounds-quantize_block-start : goal.slice_bounds-quantize_block-start
-slice_bounds-quantize_block-start c = omega (arith, facts c)
+slice_bounds-quantize_block-start c = omega (arith, facts c.args.target c.loop-b.b c.block_bytes-size.result (length c.args.x.now) (length c.args.out.now) c.block_bytes-size.ensures c.format_of.ensures c.requires c.loop-b-test.true)
 
 pub slice_bounds-quantize_block-end : goal.slice_bounds-quantize_block-end
-slice_bounds-quantize_block-end c = omega (arith, facts c)
+slice_bounds-quantize_block-end c = omega (arith, facts c.args.target c.loop-b.b c.block_bytes-size.result (length c.args.x.now) (length c.args.out.now) c.block_bytes-size.ensures c.format_of.ensures c.requires c.loop-b-test.true)
 
 pub slice_bounds-quantize_block-count-in-loop-b : goal.slice_bounds-quantize_block-count-in-loop-b
-slice_bounds-quantize_block-count-in-loop-b c = omega (arith, facts (record { before = c.before.before; type_inv = record { x = c.type_inv.x } }))
+slice_bounds-quantize_block-count-in-loop-b c = omega (arith, facts c.args.target c.loop-b.b c.block_bytes-size.result (length c.args.x.now) (length c.args.out.now) c.block_bytes-size.ensures c.format_of.ensures c.requires c.loop-b-test.true)
 
 pub slice_bounds-quantize_block-start-in-loop-b : goal.slice_bounds-quantize_block-start-in-loop-b
-slice_bounds-quantize_block-start-in-loop-b c = omega (arith, facts (record { before = c.before.before; type_inv = record { x = c.type_inv.x } }))
+slice_bounds-quantize_block-start-in-loop-b c = omega (arith, facts c.args.target c.loop-b.b c.block_bytes-size.result (length c.args.x.now) (length c.args.out.now) c.block_bytes-size.ensures c.format_of.ensures c.requires c.loop-b-test.true)
 
 pub slice_bounds-quantize_block-end-in-loop-b : goal.slice_bounds-quantize_block-end-in-loop-b
-slice_bounds-quantize_block-end-in-loop-b c = omega (arith, facts (record { before = c.before.before; type_inv = record { x = c.type_inv.x } }))
+slice_bounds-quantize_block-end-in-loop-b c = omega (arith, facts c.args.target c.loop-b.b c.block_bytes-size.result (length c.args.x.now) (length c.args.out.now) c.block_bytes-size.ensures c.format_of.ensures c.requires c.loop-b-test.true)
 
 pub quantize_block-how-requires : goal.quantize_block-how-requires
 quantize_block-how-requires c =
-    let d = c in
-    let l = d.loop-b in
-    let size = d.block_bytes-size in
-    let k = facts (record { before = c.before.before.before; type_inv = record { x = c.type_inv.x } }) in
+    let l = c.loop-b in
+    let size = c.block_bytes-size in
+    let k = facts c.args.target c.loop-b.b c.block_bytes-size.result (length c.args.x.now) (length c.args.out.now) c.block_bytes-size.ensures c.format_of.ensures c.requires c.loop-b-test.true in
     let room : l.b * size.result + size.result ≤ length l.out = omega (arith, k.1, l.invariant.0.2) in (
-      part_length d.args.x.now (l.b * 32) 32 (l.b * 32 + 32) refl k.0,
-      part_length l.out (l.b * size.result) size.result (l.b * size.result + size.result) refl room ∙ size_is (record { before = c.before.before.before.before.before; type_inv = record { out = c.type_inv.out; x = c.type_inv.x } }),
+      part_length c.args.x.now (l.b * 32) 32 (l.b * 32 + 32) refl k.0,
+      part_length l.out (l.b * size.result) size.result (l.b * size.result + size.result) refl room ∙ (c.block_bytes-size.ensures ∙ ap bytes32 c.format_of.ensures),
     )
 
 -- there are fewer blocks than a count holds
 pub count-lost-requires : goal.count-lost-requires
 count-lost-requires c =
-    let d = c in
-    let l = d.loop-b in
-    let a = d.args in
-    rw l.invariant.1 (omega (arith, at_most a.target a.x.now l.b, (facts (record { before = c.before.before.before.before.before.before; type_inv = record { x = c.type_inv.x } })).2))
+    let l = c.loop-b in
+    let k = facts c.args.target c.loop-b.b c.block_bytes-size.result (length c.args.x.now) (length c.args.out.now) c.block_bytes-size.ensures c.format_of.ensures c.requires c.loop-b-test.true in
+    rw l.invariant.1 (omega (arith, at_most c.args.target c.args.x.now l.b, k.2))
 
 pub overflow_add-b : goal.overflow_add-b
-overflow_add-b c = let d = c in omega (arith, d.loop-b-test.true, (facts (record { before = c.before.before.before.before.before.before.before; type_inv = record { x = c.type_inv.x } })).2)
+overflow_add-b c = omega (arith, facts c.args.target c.loop-b.b c.block_bytes-size.result (length c.args.x.now) (length c.args.out.now) c.block_bytes-size.ensures c.format_of.ensures c.requires c.loop-b-test.true)
 
 pub loop-b-smaller : goal.loop-b-smaller
 loop-b-smaller c = omega (arith, c.loop-b-test.true)
 
 pub loop-b-preserved : goal.loop-b-preserved
 loop-b-preserved c =
-    let d = c in
-    let l = d.loop-b in
+    let l = c.loop-b in
     let q = c.quantize_block-how.ensures in
-    let t = d in
-    let u = t.args.target in
-    let xs = t.args.x.now in
-    let size = d.block_bytes-size.result in
-    let S = size_is (record { before = c.before.before.before.before.before.before.before.before.before; type_inv = record { out = c.type_inv.out; x = c.type_inv.x } }) in
+    let u = c.args.target in
+    let xs = c.args.x.now in
+    let size = c.block_bytes-size.result in
+    let S : size ≡ bytes32 (format_of u) = (c.block_bytes-size.ensures ∙ ap bytes32 c.format_of.ensures) in
+    let k = facts c.args.target c.loop-b.b c.block_bytes-size.result (length c.args.x.now) (length c.args.out.now) c.block_bytes-size.ensures c.format_of.ensures c.requires c.loop-b-test.true in
     let b = l.b in
     let g = byte_at u (take (b * 32 + 32 - b * 32) (drop (b * 32) xs)) in (
-      parts_more (packed_at u xs) t.args.out.now (λ k. k * size) (length xs / 32) g l.out _ b size d.loop-b-test.true (rw add-one (suc-mul b size)) (facts (record { before = c.before.before.before.before.before.before.before; type_inv = record { x = c.type_inv.x } })).1 (q.1 ∙ ap (table g) (sym S)) (λ i h. placed u xs b i size S h) l.invariant.0,
+      parts_more (packed_at u xs) c.args.out.now (λ k. k * size) (length xs / 32) g l.out _ b size c.loop-b-test.true (rw add-one (suc-mul b size)) k.1 (q.1 ∙ ap (table g) (sym S)) (λ i h. placed u xs b i size S h) l.invariant.0,
       c.count-lost.ensures ∙ ap (counted l.lost) q.0 ∙ ap (λ (n : Lost). counted n (scale_fares u (take (b * 32 + 32 - b * 32) (drop (b * 32) xs)))) l.invariant.1 ∙ one_more u xs b,
     )
 
@@ -119,11 +105,11 @@ shape_of-out c = c.loop-b.invariant.0.2
 pub returns : goal.returns
 returns c =
     let l = c.loop-b in
-    let t = c in
-    let u = t.args.target in
-    let xs = t.args.x.now in
+    let u = c.args.target in
+    let xs = c.args.x.now in
     let size = c.block_bytes-size in
+    let S : size.result ≡ bytes32 (format_of u) = (c.block_bytes-size.ensures ∙ ap bytes32 c.format_of.ensures) in
     let all : l.b ≡ length xs / 32 = omega (arith, c.loop-b-test.false, l.invariant.0.1) in (
       l.invariant.1 ∙ ap (lost_in u xs) all,
-      parts_done (packed_at u xs) t.args.out.now (λ k. k * size.result) (length xs / 32) l.out l.b c.loop-b-test.false l.invariant.0 ∙ ap (filled (packed_at u xs) t.args.out.now) (rw (size_is (record { before = c.before.before.before; type_inv = record { out = c.type_inv.out; x = c.type_inv.x } }))),
+      parts_done (packed_at u xs) c.args.out.now (λ k. k * size.result) (length xs / 32) l.out l.b c.loop-b-test.false l.invariant.0 ∙ ap (filled (packed_at u xs) c.args.out.now) (ap (λ (n : ℕ). length xs / 32 * n) S),
     )

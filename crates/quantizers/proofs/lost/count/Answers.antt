@@ -1,24 +1,21 @@
 -- `lost::count` meets its contract. Assumes nothing.
 use mathlib.Core.Path.{◌≡◌, refl, sym, ap}
 use mathlib.Core.Logic.{◌⊎◌, ⊎_elim}
-use native.Mathlib.Omega.{arith}
-use denote.Enum.Declared.{tag_of}
 use Rattle.halves.specs.declared.how.How.{How}
 use Rattle.halves.specs.declared.how.How.TheVariants.{Exact, Cut, Flushed, SentToInfinity}
-use Rattle.halves.specs.contracts.how.How.{the_type}
 use Rattle.quantizers.specs.Lost.{counted}
 use Rattle.quantizers.specs.declared.lost.Lost.{Lost}
 use Rattle.quantizers.proofs.lost.count.Goals as goal
 
 -- the arm of those that are exact or cut
-none_lost : (l : Lost) (h : How) → (tag_of the_type h ≡ 0) ⊎ (tag_of the_type h ≡ 1) → l ≡ counted l h
+none_lost : (l : Lost) (h : How) → (h ≡ Exact) ⊎ (h ≡ Cut) → l ≡ counted l h
 none_lost l Exact e = refl
 none_lost l Cut e = refl
-none_lost l Flushed e = absurd (⊎_elim (λ f. omega arith) (λ f. omega arith) e)
-none_lost l SentToInfinity e = absurd (⊎_elim (λ f. omega arith) (λ f. omega arith) e)
+none_lost l Flushed e = absurd (⊎_elim (λ f. cc) (λ f. cc) e)
+none_lost l SentToInfinity e = absurd (⊎_elim (λ f. cc) (λ f. cc) e)
 
 pub returns-in-Exact : goal.returns-in-Exact
-returns-in-Exact c = none_lost c.args.lost c.args.how c.in-Exact.in-Exact-own.keys1
+returns-in-Exact c = none_lost c.args.lost c.args.how c.in-Exact.is
 
 pub returns-in-Flushed : goal.returns-in-Flushed
 returns-in-Flushed c = ap (counted c.args.lost) (sym c.in-Flushed.is)

@@ -1,12 +1,9 @@
 -- `readings::first_of` meets its contract: no reading before i reaches the largest magnitude. Assumes nothing.
 use mathlib.Core.Path.{sym, ◌∙◌}
-use mathlib.Core.Bool.{false}
-use Prim.Native.Nat.{◌-◌}
 use borrow.Author.Count.{below_none, below_more}
 use lib.ListN.{length}
 use native.Mathlib.Omega.{arith}
 use Rattle.readings.proofs.FirstLargest.{found, nothing_found}
-use Rattle.readings.proofs.magnitudes.first_of.Invariants.{Passed}
 use Rattle.readings.proofs.magnitudes.first_of.Goals as goal
 
 pub loop-i-init : goal.loop-i-init

@@ -1,7 +1,6 @@
 -- `readings::round_q8` meets its contract: what is held is one of 0 to 127, and below zero it is turned. Assumes nothing.
 use mathlib.Core.Path.{◌≡◌, sym, ap, ◌∙◌}
 use mathlib.Core.Bool.{true, false}
-use mathlib.Core.Logic.{⊎_elim}
 use Prim.Native.Nat.{ℕ, zero, suc, ◌^◌, ◌≤◌, ◌<◌}
 use native.Mathlib.Omega.{arith}
 use lib.Dec.{lit<}
@@ -16,7 +15,7 @@ use Rattle.readings.specs.Readings.{held, quant_q8}
 use Rattle.numbers.proofs.Signed.{read_is}
 use Rattle.readings.proofs.Held.{UpTo, held_up_to}
 use Rattle.readings.proofs.BothSides.{half, not_below, below}
-use Rattle.readings.proofs.quants.round_q8.Goals.{After-held_whole-q, Joined-p}
+use Rattle.readings.proofs.quants.round_q8.Goals.{After-held_whole-q, Joined-p, then-p, else-p}
 use Rattle.readings.proofs.quants.round_q8.Goals as goal
 
 -- the rule of a magnitude
@@ -81,10 +80,10 @@ record Quant (p : Float) (bits : ℕ) : Type 0 where
 met : (c : Joined-p) → Quant c.args.p c.if-p.signed-bits
 met c =
     let q = quant c.before in
-    ⊎_elim
-    (λ w. let v = turned_is c.before w.0.taken in record { is = rw (w.1, v) (read_negated q); byte = rw v (small_negated q) })
-    (λ w. let v = straight_is c.before w.0.left in record { is = rw (w.1, v) (read q); byte = rw v (small q) })
-    c.if-p.branch
+    elim c.if-p.branch [
+      | then-p w ↦ let v = turned_is c.before w.if-p.true in record { is = rw (w.signed-is-bits, v) (read_negated q); byte = rw v (small_negated q) }
+      | else-p w ↦ let v = straight_is c.before w.if-p.false in record { is = rw (w.signed-is-bits, v) (read q); byte = rw v (small q) }
+    ]
 
 pub overflow_cast-result : goal.overflow_cast-result
 overflow_cast-result c = rw (met c).is (record { sfits = (met c).byte })

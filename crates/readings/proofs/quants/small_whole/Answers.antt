@@ -1,7 +1,7 @@
 -- `readings::small_whole` meets its contract: the law of SmallWhole.antt, and the cast of a whole number. Assumes nothing.
 use mathlib.Core.Path.{◌≡◌, sym, ap, ◌∙◌}
 use mathlib.Core.Bool.{Bool, true, false, cond}
-use mathlib.Core.Logic.{⊎_elim}
+use mathlib.Core.Logic.{◌⊎◌}
 use Prim.Native.Nat.{ℕ, ◌+◌, ◌<◌, ◌≤◌, ◌^◌}
 use native.Mathlib.Omega.{arith}
 use lib.Dec.{T, le→leb}
@@ -11,13 +11,14 @@ use lib.Ieee.Back.{positive_back}
 use lib.Ieee.Casts.{to_signed_in}
 use mir.Syntax.{w32}
 use mir.Val.{to_z, of_z}
+use Rattle.numbers.specs.Steps.{nought}
 use Rattle.numbers.proofs.Signed.{read_is}
 use Rattle.readings.proofs.SmallWhole.{Whole, small, near, whole_of}
-use Rattle.readings.proofs.quants.small_whole.Goals.{After-row_known-1, Joined-c-near}
+use Rattle.readings.proofs.quants.small_whole.Goals.{Joined-c-near, then-c-near, else-c-near}
 use Rattle.readings.proofs.quants.small_whole.Goals as goal
 
-sized : (c : After-row_known-1) → Whole c.args.c
-sized c = whole_of (small c.args.c c.requires.0 c.requires.1)
+sized : {c : Float} → ((c ≡ nought) ⊎ (lt nought c ≡ true)) × (lt c (of_bits binary32 0x4380_0000) ≡ true) → Whole c
+sized {c} r = whole_of (small c r.0 r.1)
 
 -- a whole number up to 256 as a float and back
 back : (n : ℕ) → n ≤ 256 → T (in_signed binary32 31 (of_int binary32 (pos n))) × (to_signed 31 (of_int binary32 (pos n)) ≡ pos n)
@@ -42,20 +43,20 @@ module _ {c : Float} (s : Whole c) where
 
 pub float_to_int-result : goal.float_to_int-result
 unfolding of_bits
-float_to_int-result c = cast_in (sized c)
+float_to_int-result c = cast_in (sized c.requires)
 
 -- where the ways meet
 one_or_none : (c : Joined-c-near) → to_z w32 c.if-c-near.result-bits ≡ pos (cond (lt c.args.c (near c.args.c)) 1 0)
 unfolding of_bits
-one_or_none c = ⊎_elim (λ w. rw (w.1, w.0.taken)) (λ w. rw (w.1, w.0.left)) c.if-c-near.branch
+one_or_none c = elim c.if-c-near.branch [ then-c-near w ↦ rw (w.result-is-bits, w.if-c-near.true) | else-c-near w ↦ rw (w.result-is-bits, w.if-c-near.false) ]
 
-rest : (c : Joined-c-near) → to_z w32 (of_z w32 (to_signed 31 (near c.args.c))) -ℤ to_z w32 c.if-c-near.result-bits ≡ pos (sized c.before).w
-rest c = left_over (sized c.before) (one_or_none c)
+rest : (c : Joined-c-near) → to_z w32 (of_z w32 (to_signed 31 (near c.args.c))) -ℤ to_z w32 c.if-c-near.result-bits ≡ pos (sized c.requires).w
+rest c = left_over (sized c.requires) (one_or_none c)
 
 pub overflow_sub-result : goal.overflow_sub-result
 unfolding of_bits
-overflow_sub-result c = rw (rest c) (record { sfits = omega (arith, (sized c.before).under) })
+overflow_sub-result c = rw (rest c) (record { sfits = omega (arith, (sized c.requires).under) })
 
 pub returns : goal.returns
 unfolding of_bits
-returns c = rw (rest c) (read_is w32 _ (omega (arith, (sized c.before).under)) ∙ sym (sized c.before).is)
+returns c = rw (rest c) (read_is w32 _ (omega (arith, (sized c.requires).under)) ∙ sym (sized c.requires).is)
