@@ -1,6 +1,6 @@
 -- `outputs::window_outputs` meets its contract. Assumes nothing.
 use mathlib.Core.Path.{◌≡◌, sym, ap, ◌∙◌}
-use Prim.Native.Nat.{ℕ}
+use Prim.Native.Nat.{ℕ, ◌≤◌}
 use native.Mathlib.Omega.{arith}
 use mathlib.Core.List.{List, ◌++◌}
 use lib.ListN.{length, take, drop, length-append}
@@ -8,56 +8,44 @@ use lib.Seq.{length-take-le, take_at}
 use lib.Ieee.{Float}
 use Rattle.memory.specs.Lists.{table}
 use Rattle.memory.proofs.Filled.{length_table}
+use Rattle.stepped_shape.specs.declared.shape.Layer.{Layer}
 use Rattle.records.specs.Kinds.{reading_at}
 use Rattle.fillin_window.specs.Windows.{readings_of, outputs_of}
-use Rattle.fillin_window.proofs.outputs.window_outputs.Goals.{After-readings, After-x-1, Start}
 use Rattle.fillin_window.proofs.outputs.window_outputs.Goals as goal
 
 -- the part of the room that is lent has a place for each reading
-lent : (c : After-x-1) → (let n = c.args.l.in_feat in length (take n c.readings_room-x.result) ≡ n)
-lent c =
-    let t = c in
-    length-take-le t.args.l.in_feat c.readings_room-x.result (omega (arith, c.readings_room-x.ensures, t.requires.0.inputs))
+lent : (inputs : ℕ) (room : List Float) → 2048 ≡ length room → inputs ≤ 2048 → length (take inputs room) ≡ inputs
+lent inputs room e h = length-take-le inputs room (omega (arith, e, h))
 
 pub slice_bounds-readings-end : goal.slice_bounds-readings-end
-slice_bounds-readings-end c = sym (lent c)
+slice_bounds-readings-end c = sym (lent _ _ c.readings_room-x.ensures c.requires.0.inputs)
 
 pub readings-requires : goal.readings-requires
-readings-requires c = omega (arith, lent c, c.requires.1)
+readings-requires c = omega (arith, lent _ _ c.readings_room-x.ensures c.requires.0.inputs, c.requires.1)
 
 -- its places hold the readings
-module _ (c : After-readings) where
-  abbrev start : Start
-  start = c.before.before.before.before.before.before.before
+module _ (l : Layer) (bytes : List ℕ) (x room : List Float) (lent : length (take l.in_feat room) ≡ l.in_feat) (read : x ≡ table (reading_at bytes) (length (take l.in_feat room))) where
+  shown : x ≡ readings_of bytes l
+  shown = read ∙ ap (table (reading_at bytes)) lent
 
-  abbrev inputs : ℕ
-  inputs = start.args.l.in_feat
+  as_many : length x ≡ l.in_feat
+  as_many = ap length shown ∙ length_table _ l.in_feat
 
-  shown : c.readings.new.x ≡ readings_of start.args.bytes.now start.args.l
-  shown = c.readings.ensures ∙ ap (table (reading_at start.args.bytes.now)) (lent (record { before = c.before.before; type_inv = record { y = c.type_inv.y; bytes = c.type_inv.bytes; w = c.type_inv.w } }))
-
-  as_many : length c.readings.new.x ≡ inputs
-  as_many = ap length shown ∙ length_table _ inputs
-
-  front : take inputs (c.readings.new.x ++ drop inputs c.readings_room-x.result) ≡ c.readings.new.x
-  front = take_at c.readings.new.x (drop inputs c.readings_room-x.result) inputs as_many
+  front : take l.in_feat (x ++ drop l.in_feat room) ≡ x
+  front = take_at x (drop l.in_feat room) l.in_feat as_many
 
 pub slice_bounds-x-end-2 : goal.slice_bounds-x-end-2
 slice_bounds-x-end-2 c =
-    rw length-append (omega (arith, as_many (record { before = c.before.before; type_inv = record { y = c.type_inv.y; bytes = c.type_inv.bytes; w = c.type_inv.w } })))
+    rw length-append (omega (arith, as_many c.args.l c.args.bytes.now c.readings.new.x c.readings_room-x.result (lent _ _ c.readings_room-x.ensures c.requires.0.inputs) c.readings.ensures))
 
 pub slice_bounds-fill_outputs-end : goal.slice_bounds-fill_outputs-end
-slice_bounds-fill_outputs-end c = sym (ap length (front (record { before = c.before.before.before; type_inv = record { y = c.type_inv.y; bytes = c.type_inv.bytes; w = c.type_inv.w } })) ∙ as_many (record { before = c.before.before.before; type_inv = record { y = c.type_inv.y; bytes = c.type_inv.bytes; w = c.type_inv.w } }))
+slice_bounds-fill_outputs-end c = sym (ap length (front c.args.l c.args.bytes.now c.readings.new.x c.readings_room-x.result (lent _ _ c.readings_room-x.ensures c.requires.0.inputs) c.readings.ensures) ∙ as_many c.args.l c.args.bytes.now c.readings.new.x c.readings_room-x.result (lent _ _ c.readings_room-x.ensures c.requires.0.inputs) c.readings.ensures)
 
 pub fill_outputs-requires : goal.fill_outputs-requires
 fill_outputs-requires c =
-    let d = c in
-    let t = start (record { before = c.before.before.before.before; type_inv = record { y = c.type_inv.y; bytes = c.type_inv.bytes; w = c.type_inv.w } }) in
-    (t.pre.0, ap length (front (record { before = c.before.before.before.before; type_inv = record { y = c.type_inv.y; bytes = c.type_inv.bytes; w = c.type_inv.w } })) ∙ as_many (record { before = c.before.before.before.before; type_inv = record { y = c.type_inv.y; bytes = c.type_inv.bytes; w = c.type_inv.w } }), t.pre.2)
+    (c.requires.0, ap length (front c.args.l c.args.bytes.now c.readings.new.x c.readings_room-x.result (lent _ _ c.readings_room-x.ensures c.requires.0.inputs) c.readings.ensures) ∙ as_many c.args.l c.args.bytes.now c.readings.new.x c.readings_room-x.result (lent _ _ c.readings_room-x.ensures c.requires.0.inputs) c.readings.ensures, c.requires.2)
 
 pub returns : goal.returns
 returns c =
-    let d = c in
-    let t = start (record { before = c.before.before.before.before.before.before.before; type_inv = record { y = c.type_inv.y; bytes = c.type_inv.bytes; w = c.type_inv.w } }) in
     let e = c.fill_outputs.ensures in
-    record { result_value = e.result_value; y_after = e.y_after ∙ ap (λ (x : List Float). outputs_of t.args.l t.args.w.now x ++ drop t.args.l.out_feat t.args.y.now) (front (record { before = c.before.before.before.before.before.before.before; type_inv = record { y = c.type_inv.y; bytes = c.type_inv.bytes; w = c.type_inv.w } }) ∙ shown (record { before = c.before.before.before.before.before.before.before; type_inv = record { y = c.type_inv.y; bytes = c.type_inv.bytes; w = c.type_inv.w } })) }
+    record { result_value = e.result_value; y_after = e.y_after ∙ ap (λ (x : List Float). outputs_of c.args.l c.args.w.now x ++ drop c.args.l.out_feat c.args.y.now) (front c.args.l c.args.bytes.now c.readings.new.x c.readings_room-x.result (lent _ _ c.readings_room-x.ensures c.requires.0.inputs) c.readings.ensures ∙ shown c.args.l c.args.bytes.now c.readings.new.x c.readings_room-x.result (lent _ _ c.readings_room-x.ensures c.requires.0.inputs) c.readings.ensures) }
