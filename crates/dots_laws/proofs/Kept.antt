@@ -62,8 +62,8 @@ module _ {R : Float → Float → Type 0} (kept : KeptBySums R) where
 
   met_kept : {l m : List Float} (k : ℕ) → Along R l m → R (met k l) (met k m)
   unfolding met
-  met_kept zero r = along_at 0 r kept.start
-  met_kept (suc k) r = met_kept k (along_pair_up r)
+  met_kept {l = l} {m = m} zero r = along_at 0 r kept.start
+  met_kept {l = l} {m = m} (suc k) r = met_kept {l = pair_up l} {m = pair_up m} k (along_pair_up r)
 
   tree_kept : {l m : List Float} → Along R l m → R (tree l) (tree m)
   unfolding tree

@@ -7,7 +7,6 @@ use native.Mathlib.Omega.{arith}
 use borrow.Author.Tests.{le-leb, lt-leb, leb-true, leb-false}
 use lib.Dec.{leb}
 use lib.ListN.{length, length-append, get_or-append}
-use Rattle.frames.specs.declared.frame.Next.{Next}
 use Rattle.frames.specs.declared.frame.Next.TheVariants.{Bytes, More}
 use Rattle.numbers.specs.Fields.{le32}
 use Rattle.frames.specs.Frame.{good_length, size_of}

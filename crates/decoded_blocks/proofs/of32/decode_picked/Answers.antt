@@ -10,7 +10,7 @@ use Rattle.layouts.specs.declared.format.Format32.TheVariants.{Iq4Nl}
 use Rattle.layouts.proofs.Two.{own_halves, pairs_none, pairs_more, pairs_all}
 use Rattle.layouts.proofs.Quants.{nibble_small, apart_low, apart_high, iq4_nl_at}
 use Rattle.decoded_blocks.proofs.Scaled.{times}
-use Rattle.decoded_blocks.proofs.of32.decode_picked.Goals.{After-shared_slice_known-in-loop-k-1, At-loop-k}
+use Rattle.decoded_blocks.proofs.of32.decode_picked.Goals.{At-loop-k}
 use Rattle.decoded_blocks.proofs.of32.decode_picked.Goals as goal
 
 pub loop-k-init : goal.loop-k-init
@@ -44,7 +44,3 @@ returns c =
     let l = c.loop-k in
     let a = c.args in
     pairs_all 16 (λ i. i % 16) (λ i. times a.s (quant32 Iq4Nl a.block.now i)) nan l.out l.k c.loop-k-test.false (λ i h. omega arith) l.invariant
-
--- the byte of turn k, whose nibbles are below 16 as it is below 256
-byte : (c : After-shared_slice_known-in-loop-k-1) → get_or c.args.block.now (2 + c.loop-k.k) 0 < 256
-byte c = (c.type_inv.block (2 + c.loop-k.k)).fits

@@ -1,4 +1,5 @@
 -- `of32::decode_q8_0` meets its contract: the places are filled in turn. Assumes nothing.
+use Rattle.std.proofs.Common.{rules}
 use mathlib.Core.Path.{ap, ◌∙◌}
 use Prim.Native.Nat.{◌-◌}
 use mir.Syntax.{w8}
@@ -20,7 +21,7 @@ loop-k-preserved c =
     let t = d in
     let q = d.quants_q8_0-q.result in
     let s = d.f16_to_f32-s.result in
-    filling_more (at s q) t.args.out.now 32 d.loop-k.out d.loop-k.k _ t.requires.1 d.loop-k.invariant c.loop-k-test.true (ap (times s) (read_is w8 _ c.out-1.given))
+    filling_more (at s q) t.args.out.now 32 d.loop-k.out d.loop-k.k _ t.requires.1 d.loop-k.invariant c.loop-k-test.true (ap (times s) (read_is w8 _ (search rules)))
 
 pub returns : goal.returns
 returns c =

@@ -1,4 +1,5 @@
 -- `of32::scale_run` meets its contract: the places are filled in turn. Assumes nothing.
+use Rattle.std.proofs.Common.{rules}
 use mathlib.Core.Path.{ap}
 use Prim.Native.Nat.{◌-◌}
 use mir.Syntax.{w8}
@@ -15,7 +16,7 @@ loop-l-preserved c =
     let d = c in
     let t = d in
     filling_more (at t.args.s t.args.q.now) t.args.out.now 16 d.loop-l.out d.loop-l.l _ t.requires.1 d.loop-l.invariant c.loop-l-test.true
-    (ap (times t.args.s) (read_is w8 _ c.out-1.given))
+    (ap (times t.args.s) (read_is w8 _ (search rules)))
 
 pub returns : goal.returns
 returns c =

@@ -1,4 +1,5 @@
 -- `of32::scaled_values` meets its contract: the places are filled in turn. Assumes nothing.
+use Rattle.std.proofs.Common.{rules}
 use mathlib.Core.Path.{refl, ap, ◌∙◌}
 use mathlib.Core.List.{List}
 use Prim.Native.Nat.{◌-◌}
@@ -18,7 +19,7 @@ loop-n-preserved c =
     let d = c in
     let s = d.args.s in
     let v = d.values_iq4_nl-values.result in
-    filling_more (at s v) _ 16 d.loop-n.scaled d.loop-n.n _ refl d.loop-n.invariant c.loop-n-test.true (ap (times s) (read_is w8 _ c.scaled-1.given))
+    filling_more (at s v) _ 16 d.loop-n.scaled d.loop-n.n _ refl d.loop-n.invariant c.loop-n-test.true (ap (times s) (read_is w8 _ (search rules)))
 
 pub returns : goal.returns
 returns c =

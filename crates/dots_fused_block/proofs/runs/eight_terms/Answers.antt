@@ -1,4 +1,5 @@
 -- `runs::eight_terms` meets its contract. Assumes nothing.
+use Rattle.std.proofs.Common.{rules}
 use mathlib.Core.Path.{sym, ap, ◌∙◌, subst}
 use Prim.Native.Nat.{◌+◌, ◌-◌}
 use lib.ListN.{get_or, set}
@@ -20,7 +21,7 @@ loop-i-preserved c =
     let out = b.loop-i.out in
     let i = b.loop-i.i in
     subst (λ (v : Float). Adding a.l (run_terms a.x.now a.q.now a.d) 8 (set out i (add binary32 (get_or out i nan) (mul binary32 (get_or a.x.now i nan) (mul binary32 a.d v)))) (i + 1))
-    (sym (c.to_f32.ensures ∙ ap (of_int binary32) (read_is w8 _ c.to_f32-arg-1.given)))
+    (sym (c.to_f32.ensures ∙ ap (of_int binary32) (read_is w8 _ (search rules))))
     (adding_more a.l (run_terms a.x.now a.q.now a.d) 8 out i (omega arith) (omega arith) b.loop-i.invariant)
 
 pub returns : goal.returns

@@ -1,6 +1,6 @@
 -- `of32::quants_q4_0` meets its contract: in turn k the neighbours 2 k and 2 k + 1 are filled. Assumes nothing.
 use mathlib.Core.Path.{refl}
-use Prim.Native.Nat.{◌+◌, ◌-◌, ◌*◌, ◌/◌}
+use Prim.Native.Nat.{◌+◌, ◌*◌, ◌/◌}
 use lib.IntN.{pos}
 use lib.ListN.{replicate}
 use Rattle.numbers.proofs.Signed.{byte_read_lem}

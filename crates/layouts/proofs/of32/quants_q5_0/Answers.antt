@@ -1,6 +1,6 @@
 -- `of32::quants_q5_0` meets its contract: in turn k the places k and k + 16 are filled. Assumes nothing.
 use mathlib.Core.Path.{◌≡◌, refl}
-use Prim.Native.Nat.{◌+◌, ◌-◌, ◌%◌, ◌<◌}
+use Prim.Native.Nat.{◌+◌, ◌%◌, ◌<◌}
 use lib.IntN.{pos}
 use lib.ListN.{replicate}
 use Rattle.numbers.specs.Fields.{le32}

@@ -1,6 +1,5 @@
 -- `of32::quants_q8_0` meets its contract: the places are filled in turn. Assumes nothing.
 use mathlib.Core.Path.{refl, ◌∙◌}
-use Prim.Native.Nat.{◌-◌}
 use lib.IntN.{pos}
 use lib.ListN.{replicate}
 use mir.Syntax.{w8}

@@ -1,8 +1,8 @@
 -- `tree::round` meets its contract. Assumes nothing.
 use mathlib.Core.Path.{◌≡◌, refl}
-use Prim.Native.Nat.{◌+◌, ◌-◌, ◌/◌}
+use Prim.Native.Nat.{◌+◌, ◌/◌}
 use native.Mathlib.Omega.{arith}
-use lib.ListN.{length, length-set}
+use lib.ListN.{length-set}
 use Rattle.memory.proofs.Filled.{filling_start, filling_more}
 use Rattle.sums_tree.proofs.TreeLaws.{sum_at, round_pair, round_odd, round_done}
 use Rattle.sums_tree.proofs.tree.round.Goals as goal
