@@ -6,7 +6,7 @@ use mathlib.Core.Bool.{Bool, cond}
 use native.Mathlib.Nat.{zero-mul, le_refl, le_antisymm, le_of_eq}
 use native.Mathlib.Omega.{arith}
 use borrow.Author.Tests.{eq-eqb}
-use lib.ListN.{length, take, drop}
+use lib.ListN.{length, take, drop, length-append, length-drop}
 use lib.Seq.{length-take-le, take_at}
 use lib.Ieee.{Float}
 use Rattle.refusals.specs.Said.{done}
@@ -22,7 +22,7 @@ use Rattle.layers_shape.specs.declared.Shape.{Shape}
 use Rattle.layers_shape.proofs.Fits.{InSizes, product_small}
 use Rattle.layers_cpu.specs.Says.{row_weight, decoded_dot_at, scratch_after, cpu_says}
 use Rattle.layers_cpu.specs.Columns.{column, columns, scratch_of}
-use Rattle.layers_cpu.proofs.Columns.{columns_none, columns_more, columns_all, length_columns, scratch_none, scratch_more, scratch_last, length_scratch}
+use Rattle.layers_cpu.proofs.Columns.{columns_none, columns_more, columns_all, length_columns, scratch_none, scratch_more, scratch_last}
 use Rattle.layers_cpu_checks.proofs.CpuFits.{cpu_fits}
 use Rattle.layers_cpu.proofs.cpu.all_columns.Goals as goal
 
@@ -74,17 +74,22 @@ pub decode_row-requires : goal.decode_row-requires
 decode_row-requires c =
     let f = cpu_fits c.args.format c.args.s _ _ _ _ c.requires in
     let k = room_for c.args.s _ c.loop-o.o c.loop-o.scratch f.within f.weighed c.loop-o-test.true (omega (arith, f.spare, c.loop-o.invariant.4)) in
-    rw k.2 (k.0, omega (arith, k.1))
+    rw k.2 (omega (arith, k.0), omega (arith, k.1))
 
--- what scratch has at its front now
+-- row o, which a turn decodes
+abbrev decoded : Format → List ℕ → ℕ → ℕ → ℕ → Float
+decoded format w n o = row_weight format w n o
+
+-- what scratch has at its front then
 row_is : (row : ℕ → Float) (made rest : List Float) (n : ℕ) → made ≡ table row n → take n (made ++ rest) ≡ table row n
 row_is row made rest n e = take_at made rest n (ap length e ∙ length_table row n) ∙ e
 
 -- .. which is as long as it was
-whole : (format : Format) (w : List ℕ) (n o : ℕ) (first now made : List Float) → now ≡ scratch_of format w n first o → n ≤ length first
-    → made ≡ table (row_weight format w n o) n → length (made ++ drop n now) ≡ length first
-whole format w n o first now made is room e =
-    ap length (scratch_more format w n first o now made is e) ∙ length_scratch format w n first (o + 1) room
+whole : (row : ℕ → Float) (made now first : List Float) (n : ℕ) → made ≡ table row n → n ≤ length now → length now ≡ length first
+    → length (made ++ drop n now) ≡ length first
+whole row made now first n e room same =
+    let long : length made ≡ n = ap length e ∙ length_table row n in
+    simp (length-append, length-drop) (omega (arith, long, room, same))
 
 pub slice_bounds-fill_column-end : goal.slice_bounds-fill_column-end
 slice_bounds-fill_column-end c =
@@ -93,9 +98,9 @@ slice_bounds-fill_column-end c =
     let a = c.args in
     let n = a.s.in_feat in
     let l = c.loop-o in
-    let row = row_weight a.format a.w.now n l.o in
+    let row = decoded a.format a.w.now n l.o in
     let made : c.decode_row.new.out ≡ table row n = c.decode_row.ensures ∙ ap (table row) k.2 in
-    omega (arith, whole a.format a.w.now n l.o a.scratch.now l.scratch _ l.invariant.1 f.spare made, f.spare)
+    omega (arith, whole row _ l.scratch a.scratch.now n made (omega (arith, f.spare, l.invariant.4)) l.invariant.4, f.spare)
 
 pub slice_bounds-fill_column-end-in-loop-o : goal.slice_bounds-fill_column-end-in-loop-o
 slice_bounds-fill_column-end-in-loop-o c =
@@ -104,7 +109,7 @@ slice_bounds-fill_column-end-in-loop-o c =
     let a = c.args in
     let n = a.s.in_feat in
     let l = c.loop-o in
-    let row = row_weight a.format a.w.now n l.o in
+    let row = decoded a.format a.w.now n l.o in
     let made : c.decode_row.new.out ≡ table row n = c.decode_row.ensures ∙ ap (table row) k.2 in
     sym (ap length (row_is row _ (drop n l.scratch) n made) ∙ length_table row n)
 
@@ -115,7 +120,7 @@ fill_column-filled-requires c =
     let a = c.args in
     let n = a.s.in_feat in
     let l = c.loop-o in
-    let row = row_weight a.format a.w.now n l.o in
+    let row = decoded a.format a.w.now n l.o in
     let made : c.decode_row.new.out ≡ table row n = c.decode_row.ensures ∙ ap (table row) k.2 in
     record {
       batch_le_most_batch = (f.within.batch_in, f.within.in_in, f.within.out_in, c.loop-o-test.true);
@@ -150,7 +155,7 @@ loop-o-preserved c =
     let a = c.args in
     let n = a.s.in_feat in
     let l = c.loop-o in
-    let row = row_weight a.format a.w.now n l.o in
+    let row = decoded a.format a.w.now n l.o in
     let made : c.decode_row.new.out ≡ table row n = c.decode_row.ensures ∙ ap (table row) k.2 in
     let outs = a.s.out_feat in
     let call = c.fill_column-filled in
@@ -162,7 +167,7 @@ loop-o-preserved c =
       scratch_more a.format a.w.now n a.scratch.now l.o l.scratch _ l.invariant.1 made,
       omega (arith, c.loop-o-test.true),
       ap length filled_up ∙ length_columns v a.s.batch outs a.y.now (l.o + 1),
-      whole a.format a.w.now n l.o a.scratch.now l.scratch _ l.invariant.1 f.spare made,
+      whole row _ l.scratch a.scratch.now n made (omega (arith, f.spare, l.invariant.4)) l.invariant.4,
     )
 
 pub shape_of-y : goal.shape_of-y
