@@ -1,27 +1,23 @@
-// What the bench card prints.
+// What the bench card prints. What standard output does not take is left out.
 ghost use Rattle.std.specs.Prelude.{◌≡◌, cond, ◌+◌, ◌<◌, ◌^◌};
 
-use libc::STDOUT_FILENO;
-
 // The line of a row; how many are wrong then, of which `wrong` are before it.
-pub fn judged(name: &[u8], number: u64, right: bool, wrong: u64) -> u64
+pub fn judged(rt: &impl Print, name: &[u8], number: u64, right: bool, wrong: u64) -> u64
     requires { wrong + 1 < 2 ^ 64 }
     ensures { result ≡ cond right wrong (wrong + 1) }
 {
-    io::write_all(STDOUT_FILENO, name);
-    io::print_decimal(STDOUT_FILENO, number);
+    let _ = rt.write_all(name);
     if right {
-        io::write_all(STDOUT_FILENO, b": ok\n");
+        let _ = println!(rt; "{number}: ok");
         return wrong;
     }
-    io::write_all(STDOUT_FILENO, b": WRONG\n");
+    let _ = println!(rt; "{number}: WRONG");
     wrong + 1
 }
 
 // The last line: how many rows there are, and how many of them are wrong.
-pub fn print_counts(rows: u64, name: &[u8], wrong: u64) {
-    io::print_decimal(STDOUT_FILENO, rows);
-    io::write_all(STDOUT_FILENO, name);
-    io::print_decimal(STDOUT_FILENO, wrong);
-    io::write_all(STDOUT_FILENO, b" wrong\n");
+pub fn print_counts(rt: &impl Print, rows: u64, name: &[u8], wrong: u64) {
+    let _ = print!(rt; "{rows}");
+    let _ = rt.write_all(name);
+    let _ = println!(rt; "{wrong} wrong");
 }

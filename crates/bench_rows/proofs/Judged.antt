@@ -1,21 +1,18 @@
 -- What the program is to judge of a row, in terms of what the calls answer. Assumes nothing.
 use mathlib.Core.Path.{◌≡◌, refl, sym, ap, ◌∙◌}
-use mathlib.Core.Bool.{Bool, true, false, cond}
+use mathlib.Core.Bool.{true}
 use mathlib.Core.List.{List, [], ◌∷◌}
-use Prim.Native.Nat.{ℕ, ◌+◌, ◌-◌, ◌≤◌}
+use Prim.Native.Nat.{ℕ, ◌-◌}
 use native.Mathlib.Omega.{arith}
-use lib.Dec.{eqb}
 use lib.ListN.{length, get_or, replicate, get_or-map}
-use lib.Ieee.{Float, binary32, to_bits}
+use lib.Ieee.{Float}
 use borrow.Author.Tests.{eq-eqb, le-ltb}
 use Rattle.refusals.specs.Said.{Said, value}
 use Rattle.refusals.specs.Refusals.{given, or_else, carried_out}
 use Rattle.refusals.specs.declared.Refusal.{Refusal}
 use Rattle.refusals.proofs.Laws.{apart}
-use Rattle.memory.specs.Lists.{table, filled, every}
+use Rattle.memory.specs.Lists.{filled}
 use Rattle.memory.proofs.Filled.{length_filled}
-use Rattle.numbers.specs.Fields.{byte_of}
-use Rattle.readings.specs.Readings.{inverse}
 use Rattle.quantizers.specs.Says.{packed_at, quantize_refusal, quantize_says}
 use Rattle.quantizers.specs.Lost.{lost_by, packing_says}
 use Rattle.quantizers.specs.declared.lost.Lost.{Lost}
@@ -23,7 +20,6 @@ use Rattle.quantizers.specs.declared.lost.Packing.{Packing}
 use Rattle.quantizers.specs.declared.lost.Packing.TheVariants as packing
 use Rattle.quantizers.specs.declared.target.Target.TheVariants.{Q40}
 use Rattle.sums.specs.Says.{sum_says}
-use Rattle.dots_activation.specs.Whole.{elem}
 use Rattle.dots_activation.specs.Blocks.{block_said, block_says}
 use Rattle.dots_activation.specs.declared.block.Q8Block.{Q8Block}
 use Rattle.memory.proofs.Every.{every_all}

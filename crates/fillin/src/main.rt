@@ -1,14 +1,23 @@
 // Answers the windows of a record file: document 01's `fillin`.
 //
-// A program of this toolchain has no exit status of its own. Where an argument is given, the status is written to
-// descriptor 3, from which the launcher takes it.
+// Where an argument is given, the program ends with the status that says how the transcript ended, and else with 0.
 #![tactic(auto)]
 
-const STATUS: i32 = 3;
+use std::env::FillError;
+use std::process::ExitCode;
+use std::rt::Env;
 
-fn main() {
-    let ending = fillin_loop::fill_in(fillin_loop::standard());
-    if os::arg_count() > 1 {
-        io::print_decimal(STATUS, ending.status());
+// Whether an argument is given, whatever its words are.
+fn is_given(rt: &impl Env) -> bool {
+    let mut first = [0u8; 1];
+    !matches!(rt.arg(1, &mut first), Err(FillError::NotPresent))
+}
+
+fn main(rt: HostRuntime) -> ExitCode {
+    let ending = fillin_loop::fill_in(fillin_loop::standard(&rt), rt.stderr());
+    if is_given(&rt) {
+        ExitCode::from(ending.status() as u8)
+    } else {
+        ExitCode::SUCCESS
     }
 }

@@ -32,6 +32,17 @@ fn behind_record(mut st: State, size: usize) -> State
     st
 }
 
+// Copies the bytes to the front of a buffer. How many there are.
+fn copy_to_front(bytes: &[u8], buf: &mut [u8]) -> usize
+    requires { length bytes.now ≤ length buf.old }
+    ensures count { result ≡ length bytes.now }
+    ensures copied { buf.new ≡ bytes.now ++ drop (length bytes.now) buf.old }
+{
+    let count = bytes.len();
+    buf[..count].copy_from_slice(bytes);
+    count
+}
+
 // A layer: its weights are kept.
 fn take_layer(st: State, l: Layer, size: usize, payload: &[u8], weights: &mut [u8]) -> Decided
     requires { (length (weights_in payload.now) ≤ length weights.old) × (st.offset + size < 2 ^ 64) }
@@ -41,7 +52,7 @@ fn take_layer(st: State, l: Layer, size: usize, payload: &[u8], weights: &mut [u
 {
     let mut state = behind_record(st, size);
     state.layer = l;
-    state.weight_bytes = bytes::copy(records::weights(payload), weights);
+    state.weight_bytes = copy_to_front(records::weights(payload), weights);
     Decided {
         line: Line::Layer {
             format: l.format,

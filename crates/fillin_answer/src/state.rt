@@ -6,7 +6,7 @@ use stepped_shape::Layer;
 
 // The latest layer, whose in_feat is 0 where there is none yet, and how many bytes its weights have; the next record's
 // byte offset; and the windows answered and refused so far.
-#[derive(Drop)]
+#[derive(Clone, Copy)]
 pub struct State {
     pub layer: Layer,
     pub weight_bytes: usize,

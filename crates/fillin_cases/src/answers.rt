@@ -2,103 +2,102 @@
 ghost use Rattle.std.specs.Prelude.{◌<◌};
 
 use fillin_loop::Desk;
-use libc::STDOUT_FILENO;
+use std::fs::{File, OpenOptions};
+use std::io;
+use std::io::{IsTerminal, Read, Write};
 
 // Where a file is stored while it is answered.
-const PLACE: [u8; 12] = *b"case.records";
-// No descriptor.
-const NONE: i32 = -1;
+const PLACE: &str = "case.records";
 // Reads that take as much as the loop has room for.
 pub(crate) const LARGE: usize = 65_536;
 
-fn write_field(name: &[u8], n: u64) {
-    io::write_all(STDOUT_FILENO, name);
-    io::print_decimal(STDOUT_FILENO, n);
-    io::write_all(STDOUT_FILENO, b"\n");
-}
-
 // Answers what a desk reads: a line with the number before it, and one with the status behind it. The number of the
 // next answer.
-fn answer(number: u64, desk: Desk) -> u64
+fn answer<R: Read + Drop, W: Write + IsTerminal + Drop>(
+    rt: &HostRuntime,
+    number: u64,
+    desk: Desk<R, W>,
+) -> io::Result<u64>
     requires { 0 < desk.most }
 {
-    write_field(b"file ", number);
-    let ending = fillin_loop::fill_in(desk);
-    write_field(b"status ", ending.status());
-    std::num::wrapping_add_u64(number, 1)
+    println!(rt; "file {number}")?;
+    let ending = fillin_loop::fill_in(desk, rt.stderr());
+    println!(rt; "status {}", ending.status())?;
+    Ok(number.wrapping_add(1))
 }
 
 // Stores a file so many times, one behind the other.
-fn store(file: &[u8], times: usize) {
-    let place = os::open_overwrite(&PLACE);
-    if place < 0 {
-        return os::fail(&PLACE);
-    }
+fn store(rt: &HostRuntime, file: &[u8], times: usize) -> io::Result<()> {
+    let mut place = File::create(rt, PLACE)?;
     for _ in 0..times {
-        io::write_all(place, file);
+        place.write_all(file)?;
     }
-    libc::close(place);
+    Ok(())
 }
 
 // Answers what is stored, with at most so many bytes to a read. The number of the next answer.
-fn answer_stored(number: u64, most: usize) -> u64
+fn answer_stored(rt: &HostRuntime, number: u64, most: usize) -> io::Result<u64>
     requires { 0 < most }
 {
-    let input = os::open_read(&PLACE);
-    let next = answer(
+    let input = File::open(rt, PLACE)?;
+    let output = rt.stdout();
+    answer(
+        rt,
         number,
         Desk {
             input,
-            output: STDOUT_FILENO,
+            output,
             most,
         },
-    );
-    libc::close(input);
-    next
+    )
 }
 
 // Answers a file that stands so many times, one behind the other, with at most so many bytes to a read. The number of
 // the next answer.
-pub(crate) fn answer_file(number: u64, file: &[u8], times: usize, most: usize) -> u64
+pub(crate) fn answer_file(
+    rt: &HostRuntime,
+    number: u64,
+    file: &[u8],
+    times: usize,
+    most: usize,
+) -> io::Result<u64>
     requires { 0 < most }
 {
-    store(file, times);
-    answer_stored(number, most)
+    store(rt, file, times)?;
+    answer_stored(rt, number, most)
 }
 
 // Answers a file whose lines are put behind it, where they are read on as what they are not, a record: so lines are
 // written before more is read. The number of the next answer.
-pub(crate) fn answer_behind_itself(number: u64, file: &[u8]) -> u64 {
-    store(file, 1);
-    let input = os::open_read(&PLACE);
-    let output = os::open_append(&PLACE);
-    let next = answer(
+pub(crate) fn answer_behind_itself(rt: &HostRuntime, number: u64, file: &[u8]) -> io::Result<u64> {
+    store(rt, file, 1)?;
+    let input = File::open(rt, PLACE)?;
+    let output = OpenOptions::new().append(true).open(rt, PLACE)?;
+    answer(
+        rt,
         number,
         Desk {
             input,
             output,
             most: LARGE,
         },
-    );
-    libc::close(output);
-    libc::close(input);
-    next
+    )
 }
 
-// Answers an input that cannot be read, and then what is stored to an output that cannot be written.
-pub(crate) fn answer_neither(number: u64) {
+// Answers an input that cannot be read, as it is open for writing alone, and then what is stored to an output that
+// cannot be written, as it is open for reading alone.
+pub(crate) fn answer_neither(rt: &HostRuntime, number: u64) -> io::Result<()> {
     let unreadable = Desk {
-        input: NONE,
-        output: STDOUT_FILENO,
+        input: OpenOptions::new().write(true).open(rt, PLACE)?,
+        output: rt.stdout(),
         most: LARGE,
     };
-    let next = answer(number, unreadable);
-    let input = os::open_read(&PLACE);
+    let next = answer(rt, number, unreadable)?;
     let unwritable = Desk {
-        input,
-        output: NONE,
+        input: File::open(rt, PLACE)?,
+        output: File::open(rt, PLACE)?,
         most: LARGE,
     };
-    answer(next, unwritable);
-    libc::close(input);
+    answer(rt, next, unwritable)?;
+    Ok(())
 }

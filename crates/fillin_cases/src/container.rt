@@ -1,6 +1,7 @@
 // The files of a container, one after the other.
 use crate::answers::{LARGE, answer_behind_itself, answer_file};
 use numbers::u32_at;
+use std::io;
 
 // How a file is answered: at each of its cuts, from no bytes to all of them; with at most 1 byte to a read, then 2, and
 // so on; a thousand times, one behind the other; with its lines put behind it; and otherwise as it is.
@@ -16,38 +17,38 @@ const BEHIND_ITSELF: u8 = 4;
 const MOST_PIECE: usize = 7;
 
 // Answers a file at each of its cuts. The number of the next answer.
-fn answer_cuts(number: u64, file: &[u8]) -> u64 {
+fn answer_cuts(rt: &HostRuntime, number: u64, file: &[u8]) -> io::Result<u64> {
     let mut next = number;
     let mut cut: usize = 0;
     while cut < file.len() {
-        next = answer_file(next, &file[..cut], 1, LARGE);
+        next = answer_file(rt, next, &file[..cut], 1, LARGE)?;
         cut += 1;
     }
-    answer_file(next, file, 1, LARGE)
+    answer_file(rt, next, file, 1, LARGE)
 }
 
 // Answers a file in pieces. The number of the next answer.
-fn answer_pieces(number: u64, file: &[u8]) -> u64 {
+fn answer_pieces(rt: &HostRuntime, number: u64, file: &[u8]) -> io::Result<u64> {
     let mut next = number;
     for most in 1..=MOST_PIECE {
-        next = answer_file(next, file, 1, most);
+        next = answer_file(rt, next, file, 1, most)?;
     }
-    next
+    Ok(next)
 }
 
 // Answers a file as it is to be. The number of the next answer.
-fn answer_so(way: u8, number: u64, file: &[u8]) -> u64 {
+fn answer_so(rt: &HostRuntime, way: u8, number: u64, file: &[u8]) -> io::Result<u64> {
     match way {
-        AT_EACH_CUT => answer_cuts(number, file),
-        IN_PIECES => answer_pieces(number, file),
-        A_THOUSAND => answer_file(number, file, 1_000, LARGE),
-        BEHIND_ITSELF => answer_behind_itself(number, file),
-        _ => answer_file(number, file, 1, LARGE),
+        AT_EACH_CUT => answer_cuts(rt, number, file),
+        IN_PIECES => answer_pieces(rt, number, file),
+        A_THOUSAND => answer_file(rt, number, file, 1_000, LARGE),
+        BEHIND_ITSELF => answer_behind_itself(rt, number, file),
+        _ => answer_file(rt, number, file, 1, LARGE),
     }
 }
 
 // Answers the files up to the end, or to one that is cut. The number of the next answer.
-pub(crate) fn answer_container(s: &[u8]) -> u64 {
+pub(crate) fn answer_container(rt: &HostRuntime, s: &[u8]) -> io::Result<u64> {
     let mut number: u64 = 1;
     let mut at: usize = 0;
     while s.len() - at >= 5 {
@@ -58,8 +59,8 @@ pub(crate) fn answer_container(s: &[u8]) -> u64 {
             break;
         }
         let to = from + size;
-        number = answer_so(way, number, &s[from..to]);
+        number = answer_so(rt, way, number, &s[from..to])?;
         at = to;
     }
-    number
+    Ok(number)
 }

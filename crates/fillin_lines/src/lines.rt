@@ -7,7 +7,7 @@ use crate::whole::{end_line, layer_line, refused_line, stop_line, window_line};
 use refusals::Refusal;
 
 // What a line says.
-#[derive(Drop)]
+#[derive(Clone, Copy)]
 pub enum Line {
     // A layer.
     Layer {

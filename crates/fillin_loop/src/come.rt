@@ -15,7 +15,7 @@ const MOST_LINES: usize = 64;
 pub(crate) const ROOM: usize = 11_008;
 
 // How it goes on: with the next record, when more has come, or not at all.
-#[derive(Drop)]
+#[derive(Clone, Copy)]
 pub(crate) enum Course {
     On,
     More,
@@ -51,7 +51,7 @@ impl Course {
 
 // What is answered: what is kept, how many of the bytes that came are answered, how many bytes of text the lines have,
 // and how it goes on.
-#[derive(Drop)]
+#[derive(Clone, Copy)]
 pub(crate) struct Answered {
     pub state: State,
     pub bytes: usize,

@@ -1,8 +1,14 @@
 // How the answering ended.
-use crate::progress::Counter;
-use libc::STDERR_FILENO;
+ghost use Rattle.std.specs.Prelude.{◌≡◌, ◌≢◌, ◌≤◌};
 
-#[derive(Drop)]
+use crate::progress::Counter;
+use std::fmt::InlineText;
+use std::io::{Eprint, Error, Stderr};
+
+// Room for the system's words, and for the number that std puts behind them.
+const ROOM: usize = 128;
+
+#[derive(Clone, Copy)]
 pub enum Ending {
     // With the line `end`.
     Ended,
@@ -17,7 +23,12 @@ pub enum Ending {
 
 impl Ending {
     // The status of a program that ends so: 0 for `end`, 1 for `stop`, 2 where the transcript has neither.
-    pub fn status(self) -> u64 {
+    pub fn status(self) -> u64
+        ensures ended { self ≡ Ending.Ended → result ≡ 0 }
+        ensures stopped { self ≡ Ending.Stopped → result ≡ 1 }
+        ensures neither { self ≢ Ending.Ended → self ≢ Ending.Stopped → result ≡ 2 }
+        ensures bound { result ≤ 2 }
+    {
         match self {
             Ending::Ended => 0,
             Ending::Stopped => 1,
@@ -28,17 +39,40 @@ impl Ending {
     }
 }
 
-// Says on standard error what went wrong, if anything did.
-pub(crate) fn finish(progress: Counter, ending: Ending) -> Ending {
+// Says on standard error what failed, and why in the system's words, without their number.
+fn fail(errors: Stderr, what: &str, why: Error) {
+    let text = InlineText::<ROOM>::of(why);
+    let all = text.as_str();
+    let words = match all.split_once(" (os error ") {
+        Some((words, _)) => words,
+        None => all,
+    };
+    let _ = eprintln!(errors; "fillin: {what}: {words}");
+}
+
+// Ends where the input could not be read on, and says why.
+pub(crate) fn unreadable(progress: Counter, why: Error) -> Ending
+    ensures { result ≡ Ending.Unreadable }
+{
     progress.end();
-    match ending {
-        Ending::Ended => {}
-        Ending::Stopped => {}
-        Ending::Unreadable => os::fail(b"fillin: standard input"),
-        Ending::Unwritable => os::fail(b"fillin: standard output"),
-        Ending::TooMany => {
-            io::write_all(STDERR_FILENO, b"fillin: too many records\n");
-        }
-    }
-    ending
+    fail(progress.errors, "standard input", why);
+    Ending::Unreadable
+}
+
+// Ends where lines could not be written, and says why.
+pub(crate) fn unwritable(progress: Counter, why: Error) -> Ending
+    ensures { result ≡ Ending.Unwritable }
+{
+    progress.end();
+    fail(progress.errors, "standard output", why);
+    Ending::Unwritable
+}
+
+// Ends after too many turns, and says so.
+pub(crate) fn too_many(progress: Counter) -> Ending
+    ensures { result ≡ Ending.TooMany }
+{
+    progress.end();
+    let _ = eprintln!(progress.errors; "fillin: too many records");
+    Ending::TooMany
 }

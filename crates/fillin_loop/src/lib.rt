@@ -1,4 +1,4 @@
-// The work of the program `fillin`: records come in by one descriptor, and lines of text leave by another.
+// The work of the program `fillin`: records come in by a reader, and lines of text leave by a writer.
 #![tactic(auto)]
 
 mod answering;

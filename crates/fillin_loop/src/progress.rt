@@ -1,36 +1,34 @@
-// The count of windows on standard error, for someone who waits at a terminal while the lines go elsewhere.
-use libc::STDERR_FILENO;
+// The count of windows on standard error, for someone who waits at a terminal while the lines go elsewhere. What
+// standard error does not take is left out.
+use std::io::{Eprint, IsTerminal, Stderr};
 
 // How many windows lie between two counts that are shown.
 const STEP: u64 = 1_000;
 
-// Whether counts are shown, and the latest that was; 0 where none was yet.
-#[derive(Drop)]
+// Standard error, whether counts are shown there, and the latest that was; 0 where none was yet.
+#[derive(Clone, Copy)]
 pub(crate) struct Counter {
+    pub errors: Stderr,
     wanted: bool,
     shown: u64,
 }
 
 // Whether standard error is a terminal, and the lines do not go to one.
-fn is_wanted(output: i32) -> bool {
-    if libc::isatty(STDERR_FILENO) == 0 {
-        return false;
-    }
-    libc::isatty(output) == 0
+fn is_wanted<W: IsTerminal>(errors: Stderr, output: &W) -> bool {
+    errors.is_terminal() && !output.is_terminal()
 }
 
 // Writes a count over the one before it.
-fn show(windows: u64) {
-    io::write_all(STDERR_FILENO, b"\rfillin: ");
-    io::print_decimal(STDERR_FILENO, windows);
-    io::write_all(STDERR_FILENO, b" windows");
+fn show(errors: Stderr, windows: u64) {
+    let _ = eprint!(errors; "\rfillin: {windows} windows");
 }
 
 impl Counter {
-    // Before the first record, where the lines go to this descriptor.
-    pub(crate) fn begin(output: i32) -> Self {
+    // Before the first record, where the lines go to this writer.
+    pub(crate) fn begin<W: IsTerminal>(errors: Stderr, output: &W) -> Self {
         Counter {
-            wanted: is_wanted(output),
+            errors,
+            wanted: is_wanted(errors, output),
             shown: 0,
         }
     }
@@ -44,7 +42,7 @@ impl Counter {
         if full == self.shown {
             return self;
         }
-        show(full);
+        show(self.errors, full);
         self.shown = full;
         self
     }
@@ -52,7 +50,7 @@ impl Counter {
     // Ends the line of the counts, where there is one.
     pub(crate) fn end(self) {
         if self.shown > 0 {
-            io::write_all(STDERR_FILENO, b"\n");
+            let _ = eprintln!(self.errors);
         }
     }
 }

@@ -6,7 +6,7 @@ ghost use Rattle.refusals.specs.Said.{blocks_short, said_by, outcome_says, passe
 
 // Why a call says no: document 01's number, and where packed weights are too few (3) the whole blocks that were found
 // and that are needed. A refusal that counts no blocks has 0 for both.
-#[derive(Drop)]
+#[derive(Clone, Copy)]
 pub struct Refusal {
     pub number: u32,
     pub found: usize,

@@ -12,7 +12,7 @@ use replay_calls::{
 const NAME: u8 = 255;
 
 // What comes of a record with this tag: an answer is judged, and a name printed.
-pub fn judge(tag: u8, payload: &[u8]) -> Finding {
+pub fn judge(rt: &impl Print, tag: u8, payload: &[u8]) -> Finding {
     match tag {
         0..=1 => judge_binary16(tag, payload),
         2..=6 => judge_block_decoder(tag, payload),
@@ -35,7 +35,7 @@ pub fn judge(tag: u8, payload: &[u8]) -> Finding {
         42 => judge_block_quantizer(tag, payload),
         43 => judge_layer(tag, payload),
         NAME => {
-            print_name(payload);
+            print_name(rt, payload);
             Finding::Name
         }
         _ => Finding::Unknown,

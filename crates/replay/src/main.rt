@@ -53,45 +53,45 @@ impl Replay {
     }
 
     // The call's line, whose name is printed, printed to its end.
-    fn named(mut self) -> Self {
-        report::print_counts(self.answers, self.differ);
+    fn named(mut self, rt: &impl Print) -> Self {
+        report::print_counts(rt, self.answers, self.differ);
         self.answers = 0;
         self.differ = 0;
         self
     }
 
     // The replay at its end.
-    fn ended(mut self, tag: u8, finding: Finding) -> Self {
-        report::print_end(finding, tag, self.at);
+    fn ended(mut self, rt: &impl Print, tag: u8, finding: Finding) -> Self {
+        report::print_end(rt, finding, tag, self.at);
         self.on = false;
         self
     }
 }
 
 // The next record, counted, or the end of the replay.
-fn step(buf: &mut [u8], replay: Replay) -> Replay {
-    let record = records::next(buf);
+fn step(rt: &HostRuntime, buf: &mut [u8], replay: Replay) -> Replay {
+    let record = records::next(rt, buf);
     let finding = record.finding;
     match finding {
         Finding::Same => replay.past(record.len).counted(0),
         Finding::Differs => replay.past(record.len).counted(1),
-        Finding::Name => replay.past(record.len).named(),
-        _ => replay.ended(record.tag, finding),
+        Finding::Name => replay.past(record.len).named(rt),
+        _ => replay.ended(rt, record.tag, finding),
     }
 }
 
 // A proved loop has to end, and nothing says that the input does: it counts its turns down.
-fn replay_all(buf: &mut [u8]) {
+fn replay_all(rt: &HostRuntime, buf: &mut [u8]) {
     let mut replay = Replay::begin();
     let mut turns = u64::MAX;
     while turns > 0 && replay.on {
-        replay = step(buf, replay);
+        replay = step(rt, buf, replay);
         turns -= 1;
     }
 }
 
-fn main() {
+fn main(rt: HostRuntime) {
     // Room for the payload of a dot that is longer than a chunk: 8,193 floats, twice.
     let mut buf = [0u8; 131072];
-    replay_all(&mut buf);
+    replay_all(&rt, &mut buf);
 }

@@ -1,37 +1,22 @@
-// What the replay prints.
-use libc::STDOUT_FILENO;
+// What the replay prints. What standard output does not take is left out.
 use replay_answers::Finding;
 
 // The beginning of a call's line: its name.
-pub fn print_name(name: &[u8]) {
-    io::write_all(STDOUT_FILENO, name);
+pub fn print_name(rt: &impl Print, name: &[u8]) {
+    let _ = rt.write_all(name);
 }
 
 // The rest of the line: how many answers were replayed, and how many of ours differ.
-pub fn print_counts(answers: u64, differ: u64) {
-    io::write_all(STDOUT_FILENO, b": ");
-    io::print_decimal(STDOUT_FILENO, answers);
-    io::write_all(STDOUT_FILENO, b" answers, ");
-    io::print_decimal(STDOUT_FILENO, differ);
-    io::write_all(STDOUT_FILENO, b" differ\n");
+pub fn print_counts(rt: &impl Print, answers: u64, differ: u64) {
+    let _ = println!(rt; ": {answers} answers, {differ} differ");
 }
 
 // Why the sample cannot be read on; nothing, where it was read to its end.
-pub fn print_end(finding: Finding, tag: u8, at: u64) {
-    match finding {
-        Finding::Unknown => {
-            io::write_all(STDOUT_FILENO, b"unknown tag ");
-            io::print_decimal(STDOUT_FILENO, tag as u64);
-        }
-        Finding::Malformed => {
-            io::write_all(STDOUT_FILENO, b"malformed record");
-        }
-        Finding::Cut => {
-            io::write_all(STDOUT_FILENO, b"cut record");
-        }
-        _ => return,
-    }
-    io::write_all(STDOUT_FILENO, b" at byte ");
-    io::print_decimal(STDOUT_FILENO, at);
-    io::write_all(STDOUT_FILENO, b"\n");
+pub fn print_end(rt: &impl Print, finding: Finding, tag: u8, at: u64) {
+    let _ = match finding {
+        Finding::Unknown => println!(rt; "unknown tag {tag} at byte {at}"),
+        Finding::Malformed => println!(rt; "malformed record at byte {at}"),
+        Finding::Cut => println!(rt; "cut record at byte {at}"),
+        _ => Ok(()),
+    };
 }

@@ -1,6 +1,5 @@
--- `run_only::against_one_block` meets its contract. Assumes nothing.
-use lib.Ieee.{Float}
-use mathlib.Core.Path.{ap, ◌∙◌}
+-- `run_only::against_one_block`: the block's values are ones.
+use Rattle.std.proofs.Common.{ap, ◌∙◌, Float}
 use Rattle.refusals.specs.Said.{Said}
 use Rattle.replay_answers.specs.Same.{same_answer}
 use Rattle.bench_card.specs.RunOnly.{block_of_ones}

@@ -3,7 +3,6 @@ use mathlib.Core.Path.{◌≡◌, refl, sym, ap, subst, ◌∙◌}
 use mathlib.Core.List.{List, [], ◌++◌}
 use Prim.Native.Nat.{ℕ, ◌≤◌}
 use native.Mathlib.Omega.{arith}
-use borrow.Author.Rules.{rules}
 use lib.Dec.{lit≤}
 use lib.ListN.{length, take, drop}
 use lib.Seq.{length-take-le, take_at}
@@ -24,11 +23,10 @@ use Rattle.fillin_answer.specs.Kept.{with_layer, behind}
 use Rattle.fillin_answer.specs.Answers.{Answer, decided, answer_to}
 use Rattle.fillin_answer.specs.Inner.{saying, Decides}
 use Rattle.fillin_answer.proofs.Kept.{few_kept, own_front, layer_sound}
-use Rattle.fillin_answer.proofs.answers.decide.Statement.{statement}
-use Rattle.fillin_answer.proofs.answers.decide.Tie as tie
+use Rattle.fillin_answer.proofs.answers.decide.Goals.{In-Layer-2, In-Window, Start}
+use Rattle.fillin_answer.proofs.answers.decide.Goals as goal
 
 -- ---- what was decided, by its line
-
 -- a line that shows outputs, and one that shows none
 shows : (a : Answer) (d : Decided) (n : ℕ) (y rest : List Float) → d ≡ saying a.says n a.state → y ≡ a.outputs ++ rest → length a.outputs ≡ n → n ≤ 16 → Decides a d y
 shows a d n y rest e f long h =
@@ -38,7 +36,6 @@ silent : (a : Answer) (d : Decided) (y : List Float) → d ≡ saying a.says 0 a
 silent a d y e none = subst (λ (k : Decided). Decides a k y) (sym e) (record { same_line = refl; same_outputs = sym none; few = lit≤ tt; same_state = refl })
 
 -- ---- from what was found to the answer
-
 module _ (st : State) (s weights : List ℕ) where
   -- the latest layer's weights
   abbrev latest : List ℕ
@@ -64,76 +61,74 @@ module _ (st : State) (s weights : List ℕ) where
       (q, l)
 
 -- ---- the calls
-
 -- a layer was found
-module _ (k : tie.After-format) where
-  abbrev at_layer : tie.Start
+module _ (k : In-Layer-2) where
+  abbrev at_layer : Start
   at_layer = k.before.before.before.before.before.before.before
 
   a_layer :
       (let a = at_layer.args in
       let g = k.format.given.0 in
-      found (frame_of a.«record».now) a.st.layer.in_feat ≡ value (layer g.0 g.1.0 g.1.1.0))
-  a_layer = sym k.before.before.read.ensures ∙ ap item_says k.format.given.1
+      found (frame_of a.«record».now) a.st.layer.in_feat ≡ value (layer k.in-Layer.format k.in-Layer.in_feat k.in-Layer.out_feat))
+  a_layer = sym k.read.ensures ∙ ap item_says k.in-Layer.is
 
-take-layer-requires : tie.Need-take-layer-requires
-take-layer-requires c κs =
-    let k = c.before.before.before in
+pub take_layer-requires : goal.take_layer-requires
+take_layer-requires c =
+    let k = c in
     let t = at_layer k in
     let l = layer_sound _ (frame_of t.args.«record».now) _ _ _ (a_layer k) in
     let few = few_weights l.known _ _ l.inputs l.outputs in
-    (rw c.before.payload.ensures (omega (arith, l.weighed, few, t.pre.0.1)), t.pre.1.0)
+    (rw c.payload.ensures (omega (arith, l.weighed, few, t.pre.0.1)), t.pre.1.0)
 
 -- a window was found
-module _ (k : tie.After-enum-told2) where
-  abbrev at_window : tie.Start
+module _ (k : In-Window) where
+  abbrev at_window : Start
   at_window = k.before.before.before.before.before.before.before
 
   a_window : (let a = at_window.args in found (frame_of a.«record».now) a.st.layer.in_feat ≡ value window)
-  a_window = sym k.before.before.read.ensures ∙ ap item_says k.enum-told2.given.1
+  a_window = sym k.read.ensures ∙ ap item_says k.in-Window.is
 
   window_fits : (let a = at_window.args in a.st.weight_bytes ≤ length a.weights.now)
   window_fits = let t = at_window in fits t.args.st t.args.«record».now t.args.weights.now t.pre.0.0 t.pre.0.1
 
-slice-reshare-prefix-answer-window : tie.Need-slice-reshare-prefix-answer-window
-slice-reshare-prefix-answer-window c = window_fits c.before
+pub slice_bounds-answer_window-end : goal.slice_bounds-answer_window-end
+slice_bounds-answer_window-end c = window_fits (record { before = c.before.before; type_inv = record { y = c.type_inv.y; weights = c.type_inv.weights; record = c.type_inv.record } })
 
-slice-aggregate-answer-window : tie.Need-slice-aggregate-answer-window
-slice-aggregate-answer-window c = sym (length-take-le _ _ (window_fits c.before.before))
+pub slice_bounds-answer_window-end-in-Window : goal.slice_bounds-answer_window-end-in-Window
+slice_bounds-answer_window-end-in-Window c = sym (length-take-le _ _ (window_fits c))
 
-answer-window-requires : tie.Need-answer-window-requires
-answer-window-requires c κs =
-    let k = c.before.before.before in
+pub answer_window-requires : goal.answer_window-requires
+answer_window-requires c =
+    let k = c in
     let t = at_window k in
     let kept : length (take t.args.st.weight_bytes t.args.weights.now) ≡ t.args.st.weight_bytes = length-take-le _ _ (window_fits k) in
-    ((rw kept t.pre.0.0, t.pre.0.2, ap length c.before.before.payload2.ensures ∙ window_read _ (frame_of t.args.«record».now) (a_window k)), t.pre.1)
+    record { sound = (rw kept t.pre.0.0, t.pre.0.2, ap length c.payload-in-Window.ensures ∙ window_read _ (frame_of t.args.«record».now) (a_window k)); size_bound = t.pre.1 }
 
 -- ---- the answers
+pub returns-in-End : goal.returns-in-End
+returns-in-End c =
+    let t = c in
+    concluded t.args.st t.args.«record».now t.args.weights.now (value nothing) _ _ _ (sym c.read.ensures ∙ ap item_says c.in-End.is) (silent _ _ _ refl refl) (stays t.args.st t.args.«record».now t.args.weights.now t.requires.sound.0 t.requires.sound.1)
 
-returns : tie.Need-returns
-returns c =
-    let t = c.before.before.before.before.before.before.before in
-    concluded t.args.st t.args.«record».now t.args.weights.now (value nothing) _ _ _ (sym c.before.before.read.ensures ∙ ap item_says c.enum_told.given.1) (silent _ _ _ refl refl) (stays t.args.st t.args.«record».now t.args.weights.now t.requires.0.0 t.requires.0.1)
-
-returns-2 : tie.Need-returns-2
-returns-2 c =
-    let e = c.before.before.take-layer.ensures in
-    let p = c.before.before.before.before.payload.ensures in
-    let k = c.before.before.before.before.before.before in
+pub returns-in-Layer : goal.returns-in-Layer
+returns-in-Layer c =
+    let e = c.take_layer.ensures in
+    let p = c.payload.ensures in
+    let k = c in
     let g = k.format.given.0 in
     let t = at_layer k in
     let st = t.args.st in
     let weights = t.args.weights.now in
-    let line = Layer g.0 g.1.0 g.1.1.0 in
-    let l = layer_of g.0 g.1.0 g.1.1.0 in
+    let line = Layer c.in-Layer.format c.in-Layer.in_feat c.in-Layer.out_feat in
+    let l = layer_of c.in-Layer.format c.in-Layer.in_feat c.in-Layer.out_feat in
     let same = ap (λ (q : List ℕ). saying line 0 (with_layer l (length (weights_in q)) (behind (length t.args.«record».now) st))) p in
-    concluded st t.args.«record».now weights (value (layer g.0 g.1.0 g.1.1.0)) _ _ _ (a_layer k) (silent _ _ _ (e.0 ∙ same) refl) (e.1 ∙ ap (λ (q : List ℕ). laid weights 0 (weights_in q)) p)
+    concluded st t.args.«record».now weights (value (layer c.in-Layer.format c.in-Layer.in_feat c.in-Layer.out_feat)) _ _ _ (a_layer k) (silent _ _ _ (e.value ∙ same) refl) (e.weights_after ∙ ap (λ (q : List ℕ). laid weights 0 (weights_in q)) p)
 
-returns-3 : tie.Need-returns-3
-returns-3 c =
-    let e = c.before.before.answer-window.ensures in
-    let p = c.before.before.before.before.before.payload2.ensures in
-    let k = c.before.before.before.before.before.before in
+pub returns-in-Window : goal.returns-in-Window
+returns-in-Window c =
+    let e = c.answer_window.ensures in
+    let p = c.payload-in-Window.ensures in
+    let k = c in
     let t = at_window k in
     let st = t.args.st in
     let s = t.args.«record».now in
@@ -141,22 +136,16 @@ returns-3 c =
     let l = st.layer in
     let kept = take st.weight_bytes weights in
     let rest = drop l.out_feat t.args.y.now in
-    let shown = e.1 ∙ ap (λ (q : List ℕ). outputs_of l kept (readings_of (readings_in q) l) ++ rest) p in
-    concluded st s weights (value window) _ _ _ (a_window k) (shows _ _ l.out_feat _ rest e.0 shown (as_many l _ t.pre.0.0 _ _) t.pre.0.0.outputs) (stays st s weights t.pre.0.0 t.pre.0.1)
+    let shown = e.y_after ∙ ap (λ (q : List ℕ). outputs_of l kept (readings_of (readings_in q) l) ++ rest) p in
+    concluded st s weights (value window) _ _ _ (a_window k) (shows _ _ l.out_feat _ rest e.value shown (as_many l _ t.pre.0.0 _ _) t.pre.0.0.outputs) (stays st s weights t.pre.0.0 t.pre.0.1)
 
-returns-4 : tie.Need-returns-4
-returns-4 c =
-    let t = c.before.before.before.before.before.before.before.before in
-    concluded t.args.st t.args.«record».now t.args.weights.now (value warm_up) _ _ _ (sym c.before.before.before.read.ensures ∙ ap item_says c.before.enum-told3.given.1) (silent _ _ _ c.refuse-window.ensures refl) (stays t.args.st t.args.«record».now t.args.weights.now t.requires.0.0 t.requires.0.1)
+pub returns-in-WarmUp : goal.returns-in-WarmUp
+returns-in-WarmUp c =
+    let t = c in
+    concluded t.args.st t.args.«record».now t.args.weights.now (value warm_up) _ _ _ (sym c.read.ensures ∙ ap item_says c.in-WarmUp.is) (silent _ _ _ c.refuse_window.ensures refl) (stays t.args.st t.args.«record».now t.args.weights.now t.requires.sound.0 t.requires.sound.1)
 
-returns-5 : tie.Need-returns-5
-returns-5 c =
-    let k = c.before.before in
-    let t = k.before.before.before.before.before.before.before in
-    concluded t.args.st t.args.«record».now t.args.weights.now (refused k.why.given.0.0) _ _ _ (sym k.before.before.read.ensures ∙ ap item_says k.why.given.1) (silent _ _ _ c.stop.ensures refl) (stays t.args.st t.args.«record».now t.args.weights.now t.requires.0.0 t.requires.0.1)
-
-pub decide_spec : {M : Type 1} → statement M
-decide_spec =
-    tie.close
-    (tie.spec (λ c κs. search rules) (λ c. search rules) (λ c. search rules) (λ c κs. search rules) take-layer-requires (λ c. search rules) (λ c κs. search rules) slice-reshare-prefix-answer-window slice-aggregate-answer-window answer-window-requires
-    (λ c. search rules) (λ c κs. search rules) (λ c. search rules) (λ c κs. search rules) returns (λ c. search rules) returns-2 (λ c. search rules) (λ c. search rules) returns-3 returns-4 returns-5)
+pub returns-in-Refused : goal.returns-in-Refused
+returns-in-Refused c =
+    let k = c in
+    let t = k in
+    concluded t.args.st t.args.«record».now t.args.weights.now (refused k.in-Refused.why) _ _ _ (sym k.read.ensures ∙ ap item_says k.in-Refused.is) (silent _ _ _ c.stop.ensures refl) (stays t.args.st t.args.«record».now t.args.weights.now t.requires.sound.0 t.requires.sound.1)

@@ -1,2 +1,0 @@
--- How the count of wrong rows grows.
-pub mod Counted

@@ -1,0 +1,48 @@
+-- `answers::answer` meets its contract: what is decided, and then its line. Assumes nothing.
+use mathlib.Core.Path.{◌≡◌, sym, ap, subst, ◌∙◌}
+use mathlib.Core.List.{List}
+use Prim.Native.Nat.{ℕ, ◌≤◌}
+use native.Mathlib.Omega.{arith}
+use lib.ListN.{length, length-append}
+use lib.Seq.{length-take-le}
+use lib.Ieee.{Float}
+use Rattle.fillin_text.specs.Text.{laid}
+use Rattle.fillin_text.proofs.Laid.{laid_front}
+use Rattle.fillin_lines.specs.declared.lines.Line.{Line}
+use Rattle.fillin_lines.specs.Lines.{text_of, is_last}
+use Rattle.fillin_answer.specs.Kept.{Carried}
+use Rattle.fillin_answer.proofs.Kept.{carried}
+use Rattle.fillin_answer.proofs.answers.answer.Goals as goal
+
+pub slice_bounds-write_line-end : goal.slice_bounds-write_line-end
+slice_bounds-write_line-end c = sym (length-take-le _ _ (slice_bounds-y-end (record { before = c.before.before; type_inv = record { weights = c.type_inv.weights; line = c.type_inv.line; record = c.type_inv.record } })))
+
+pub write_line-length-requires : goal.write_line-length-requires
+write_line-length-requires c =
+    let d = c in
+    let few = d.decide-decided.ensures.decides.few in
+    (d.requires.line_fits, rw (length-take-le _ _ (slice_bounds-y-end (record { before = c.before.before.before; type_inv = record { weights = c.type_inv.weights; line = c.type_inv.line; record = c.type_inv.record } }))) few)
+
+-- a text that is laid at the front fits there
+fits : (before t after : List ℕ) (n : ℕ) → after ≡ laid before 0 t → n ≡ length t → n ≤ length after
+fits before t after n e h = rw (e ∙ laid_front before t, length-append) (omega arith)
+
+same_text : (l k : Line) (xs ys : List Float) → l ≡ k → xs ≡ ys → text_of l xs ≡ text_of k ys
+same_text l k xs ys e f = rw (e, f)
+
+pub returns : goal.returns
+returns c =
+    let w = c.write_line-length.ensures in
+    let d = c.decide-decided.ensures in
+    let t = c in
+    let said = d.decides in
+    let text = same_text _ _ _ _ said.same_line said.same_outputs in
+    let kept = carried t.args.st _ t.args.«record».now t.requires.sound in (
+      record {
+        same_state = said.same_state;
+        shape_of-weights = w.value.0 ∙ ap length text;
+        same_over = c.is_last.ensures ∙ ap is_last said.same_line;
+        same_line = w.buf_after ∙ ap (laid _ 0) text;
+      },
+      (d.weights_after, (subst (Carried t.args.st (length t.args.«record».now)) (sym said.same_state) kept, fits _ _ _ _ w.buf_after w.value.0)),
+    )

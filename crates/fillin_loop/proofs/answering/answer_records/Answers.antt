@@ -1,0 +1,92 @@
+-- `answering::answer_records`: each turn keeps what answering relies on.
+use Rattle.std.proofs.Common.{◌≡◌, ℕ, ◌+◌, ◌-◌, ◌≤◌, List, length, drop, refl, ◌∙◌, arith}
+use Rattle.std.proofs.Math.ListN.{length-drop}
+use Rattle.std.proofs.Math.Seq.{length-take-le}
+use Rattle.fillin_answer.proofs.Begun.{begins}
+use Rattle.fillin_loop.specs.declared.input.Unread.{Unread}
+use Rattle.fillin_loop.specs.Input.{unread_in, InBuffer}
+use Rattle.fillin_loop.proofs.answering.answer_records.Goals as goal
+
+-- the bytes that have come
+come_length : (buf : List ℕ) (u : Unread) → InBuffer buf u → length (unread_in buf u) ≡ u.to - u.from
+come_length buf u h = length-take-le (u.to - u.from) (drop u.from buf) (rw length-drop (omega (arith, h)))
+
+-- those that are answered are some of them
+left_in : (buf : List ℕ) (u : Unread) (n : ℕ) → InBuffer buf u → n ≤ length (unread_in buf u) → u.from + n ≤ u.to
+left_in buf u n h k = omega (arith, come_length buf u h, h)
+
+pub loop_init : goal.loop-init
+loop_init g c =
+    let s = begins c.start-st.result c.start-st.ensures in
+    record {
+      buf-long = refl;
+      sound = s.0;
+      offset_in = omega (arith, s.1);
+      count_in = omega (arith, s.1);
+      unread-in = record { in_order = omega arith; inside = omega arith };
+    }
+
+pub answer_come_done_requires : goal.answer_come-done-requires
+answer_come_done_requires g c =
+    let v = c.loop.invariant in
+    let come = come_length c.loop.buf c.loop.unread v.unread-in in
+    record {
+      sound = v.sound;
+      weights_fit = omega arith;
+      lines_fit = omega arith;
+      offset_fits = omega (arith, come, v.unread-in, v.buf-long, v.offset_in, c.requires);
+      count_fits = omega (arith, v.count_in);
+    }
+
+pub shape_of_buf_in_Err : goal.shape_of-buf-in-Err
+shape_of_buf_in_Err g c = c.loop.invariant.buf-long
+
+pub overflow_add_unread : goal.overflow_add-unread
+overflow_add_unread g c =
+    let v = c.loop.invariant in
+    let behind = left_in c.loop.buf c.loop.unread c.answer_come-done.result.bytes v.unread-in c.answer_come-done.ensures.reached.bytes_in in
+    omega (arith, behind, v.unread-in, v.buf-long, c.requires)
+
+pub loop_preserved_in_On : goal.loop-preserved-in-On
+loop_preserved_in_On g c =
+    let v = c.loop.invariant in
+    let r = c.answer_come-done.ensures.reached in
+    let come = come_length c.loop.buf c.loop.unread v.unread-in in
+    let behind = left_in c.loop.buf c.loop.unread c.answer_come-done.result.bytes v.unread-in r.bytes_in in
+    record {
+      buf-long = v.buf-long;
+      sound = r.sound;
+      offset_in = omega (arith, r.offset_in, r.bytes_in, come, v.unread-in, v.buf-long, v.offset_in, c.requires);
+      count_in = omega (arith, r.count_in, v.count_in);
+      unread-in = record { in_order = behind; inside = v.unread-in.inside };
+    }
+
+pub shape_of_buf_in_Over : goal.shape_of-buf-in-Over
+shape_of_buf_in_Over g c = c.loop.invariant.buf-long
+
+pub read_on_unread_requires : goal.read_on-unread-requires
+read_on_unread_requires g c =
+    let v = c.loop.invariant in
+    let r = c.answer_come-done.ensures.reached in
+    let come = come_length c.loop.buf c.loop.unread v.unread-in in
+    let behind = left_in c.loop.buf c.loop.unread c.answer_come-done.result.bytes v.unread-in r.bytes_in in
+    (record { in_order = behind; inside = v.unread-in.inside }, omega (arith, r.short c.in-More.is, come, v.buf-long, c.requires), omega (arith, c.requires))
+
+pub shape_of_buf_in_Some : goal.shape_of-buf-in-Some
+shape_of_buf_in_Some g c = c.read_on-unread.auto.buf ∙ c.loop.invariant.buf-long
+
+pub loop_preserved : goal.loop-preserved
+loop_preserved g c =
+    let v = c.loop.invariant in
+    let r = c.answer_come-done.ensures.reached in
+    let come = come_length c.loop.buf c.loop.unread v.unread-in in
+    record {
+      buf-long = c.read_on-unread.auto.buf ∙ v.buf-long;
+      sound = r.sound;
+      offset_in = omega (arith, r.offset_in, r.bytes_in, come, v.unread-in, v.buf-long, v.offset_in, c.requires);
+      count_in = omega (arith, r.count_in, v.count_in);
+      unread-in = c.read_on-unread.ensures.within;
+    }
+
+pub shape_of_buf : goal.shape_of-buf
+shape_of_buf g c = c.loop.invariant.buf-long
