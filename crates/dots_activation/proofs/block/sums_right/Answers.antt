@@ -38,7 +38,7 @@ pub returns-then-sum_of_32-bsums : goal.returns-then-sum_of_32-bsums
 unfolding sums_right
 returns-then-sum_of_32-bsums c =
     let s = c in
-    (sym (every_not _ 8 s.loop-j.j (omega arith) (eq_z_not _ _ (λ e. c.if-sum_of_32-bsums.true (ap (of_z w32) (sum_is c.before.before ∙ e))))), λ e. absurd (false≢true e))
+    (sym (every_not _ 8 s.loop-j.j (omega arith) (eq_z_not (sum_of_32 s.args.qs.now s.loop-j.j) (elem s.args.bsums.now s.loop-j.j) (λ e. c.if-sum_of_32-bsums.true (ap (of_z w32) (sum_is c.before.before ∙ e))))), λ e. absurd (false≢true e))
 
 -- the claim is the sum
 claimed : (c : Else-sum_of_32-bsums)
