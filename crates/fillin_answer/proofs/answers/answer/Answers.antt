@@ -15,13 +15,13 @@ use Rattle.fillin_answer.proofs.Kept.{carried}
 use Rattle.fillin_answer.proofs.answers.answer.Goals as goal
 
 pub slice_bounds-write_line-end : goal.slice_bounds-write_line-end
-slice_bounds-write_line-end c = sym (length-take-le _ _ (slice_bounds-y-end (record { before = c.before.before; type_inv = record { weights = c.type_inv.weights; line = c.type_inv.line; record = c.type_inv.record } })))
+slice_bounds-write_line-end c = sym (length-take-le _ _ (omega arith))
 
 pub write_line-length-requires : goal.write_line-length-requires
 write_line-length-requires c =
     let d = c in
     let few = d.decide-decided.ensures.decides.few in
-    (d.requires.line_fits, rw (length-take-le _ _ (slice_bounds-y-end (record { before = c.before.before.before; type_inv = record { weights = c.type_inv.weights; line = c.type_inv.line; record = c.type_inv.record } }))) few)
+    (d.requires.line_fits, let room : d.decide-decided.result.outputs ≤ length d.decide-decided.new.y = omega arith in rw (length-take-le _ _ room) few)
 
 -- a text that is laid at the front fits there
 fits : (before t after : List ℕ) (n : ℕ) → after ≡ laid before 0 t → n ≡ length t → n ≤ length after
@@ -37,12 +37,14 @@ returns c =
     let t = c in
     let said = d.decides in
     let text = same_text _ _ _ _ said.same_line said.same_outputs in
-    let kept = carried t.args.st _ t.args.«record».now t.requires.sound in (
-      record {
+    let kept = carried t.args.st _ t.args.«record».now t.requires.sound in
+    record {
+      replied = record {
         same_state = said.same_state;
-        shape_of-weights = w.value.0 ∙ ap length text;
+        same_length = w.value.0 ∙ ap length text;
         same_over = c.is_last.ensures ∙ ap is_last said.same_line;
         same_line = w.buf_after ∙ ap (laid _ 0) text;
-      },
-      (d.weights_after, (subst (Carried t.args.st (length t.args.«record».now)) (sym said.same_state) kept, fits _ _ _ _ w.buf_after w.value.0)),
-    )
+      };
+      weights_after = d.weights_after;
+      carried = (subst (Carried t.args.st (length t.args.«record».now)) (sym said.same_state) kept, fits _ _ _ _ w.buf_after w.value.0);
+    }

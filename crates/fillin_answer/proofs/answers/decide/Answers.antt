@@ -23,7 +23,6 @@ use Rattle.fillin_answer.specs.Kept.{with_layer, behind}
 use Rattle.fillin_answer.specs.Answers.{Answer, decided, answer_to}
 use Rattle.fillin_answer.specs.Inner.{saying, Decides}
 use Rattle.fillin_answer.proofs.Kept.{few_kept, own_front, layer_sound}
-use Rattle.fillin_answer.proofs.answers.decide.Goals.{In-Layer-2, In-Window, Start}
 use Rattle.fillin_answer.proofs.answers.decide.Goals as goal
 
 -- ---- what was decided, by its line
@@ -61,75 +60,50 @@ module _ (st : State) (s weights : List ℕ) where
       (q, l)
 
 -- ---- the calls
--- a layer was found
-module _ (k : In-Layer-2) where
-  abbrev at_layer : Start
-  at_layer = k.before.before.before.before.before.before.before
-
-  a_layer :
-      (let a = at_layer.args in
-      let g = k.format.given.0 in
-      found (frame_of a.«record».now) a.st.layer.in_feat ≡ value (layer k.in-Layer.format k.in-Layer.in_feat k.in-Layer.out_feat))
-  a_layer = sym k.read.ensures ∙ ap item_says k.in-Layer.is
-
 pub take_layer-requires : goal.take_layer-requires
 take_layer-requires c =
-    let k = c in
-    let t = at_layer k in
-    let l = layer_sound _ (frame_of t.args.«record».now) _ _ _ (a_layer k) in
+    let t = c in
+    let l = layer_sound _ (frame_of t.args.«record».now) _ _ _ (sym c.read.ensures ∙ ap item_says c.in-Layer.is) in
     let few = few_weights l.known _ _ l.inputs l.outputs in
-    (rw c.payload.ensures (omega (arith, l.weighed, few, t.pre.0.1)), t.pre.1.0)
-
--- a window was found
-module _ (k : In-Window) where
-  abbrev at_window : Start
-  at_window = k.before.before.before.before.before.before.before
-
-  a_window : (let a = at_window.args in found (frame_of a.«record».now) a.st.layer.in_feat ≡ value window)
-  a_window = sym k.read.ensures ∙ ap item_says k.in-Window.is
-
-  window_fits : (let a = at_window.args in a.st.weight_bytes ≤ length a.weights.now)
-  window_fits = let t = at_window in fits t.args.st t.args.«record».now t.args.weights.now t.pre.0.0 t.pre.0.1
+    (rw c.payload.ensures (omega (arith, l.weighed, few, c.requires.sound.1)), c.requires.record_bound.0)
 
 pub slice_bounds-answer_window-end : goal.slice_bounds-answer_window-end
-slice_bounds-answer_window-end c = window_fits (record { before = c.before.before; type_inv = record { y = c.type_inv.y; weights = c.type_inv.weights; record = c.type_inv.record } })
+slice_bounds-answer_window-end c = fits c.args.st c.args.«record».now c.args.weights.now c.requires.sound.0 c.requires.sound.1
 
 pub slice_bounds-answer_window-end-in-Window : goal.slice_bounds-answer_window-end-in-Window
-slice_bounds-answer_window-end-in-Window c = sym (length-take-le _ _ (window_fits c))
+slice_bounds-answer_window-end-in-Window c = sym (length-take-le _ _ (fits c.args.st c.args.«record».now c.args.weights.now c.requires.sound.0 c.requires.sound.1))
 
 pub answer_window-requires : goal.answer_window-requires
 answer_window-requires c =
-    let k = c in
-    let t = at_window k in
-    let kept : length (take t.args.st.weight_bytes t.args.weights.now) ≡ t.args.st.weight_bytes = length-take-le _ _ (window_fits k) in
-    record { sound = (rw kept t.pre.0.0, t.pre.0.2, ap length c.payload-in-Window.ensures ∙ window_read _ (frame_of t.args.«record».now) (a_window k)); size_bound = t.pre.1 }
+    let t = c in
+    let kept : length (take t.args.st.weight_bytes t.args.weights.now) ≡ t.args.st.weight_bytes = length-take-le _ _ (fits c.args.st c.args.«record».now c.args.weights.now c.requires.sound.0 c.requires.sound.1) in
+    record { sound = (rw kept c.requires.sound.0, c.requires.sound.2, ap length c.payload-in-Window.ensures ∙ window_read _ (frame_of t.args.«record».now) (sym c.read.ensures ∙ ap item_says c.in-Window.is)); size_bound = c.requires.record_bound }
 
 -- ---- the answers
 pub returns-in-End : goal.returns-in-End
 returns-in-End c =
     let t = c in
-    concluded t.args.st t.args.«record».now t.args.weights.now (value nothing) _ _ _ (sym c.read.ensures ∙ ap item_says c.in-End.is) (silent _ _ _ refl refl) (stays t.args.st t.args.«record».now t.args.weights.now t.requires.sound.0 t.requires.sound.1)
+    let both = concluded t.args.st t.args.«record».now t.args.weights.now (value nothing) _ _ _ (sym c.read.ensures ∙ ap item_says c.in-End.is) (silent _ _ _ refl refl) (stays t.args.st t.args.«record».now t.args.weights.now t.requires.sound.0 t.requires.sound.1) in
+    record { decides = both.0; weights_after = both.1 }
 
 pub returns-in-Layer : goal.returns-in-Layer
 returns-in-Layer c =
     let e = c.take_layer.ensures in
     let p = c.payload.ensures in
-    let k = c in
-    let g = k.format.given.0 in
-    let t = at_layer k in
+    let t = c in
     let st = t.args.st in
     let weights = t.args.weights.now in
     let line = Layer c.in-Layer.format c.in-Layer.in_feat c.in-Layer.out_feat in
     let l = layer_of c.in-Layer.format c.in-Layer.in_feat c.in-Layer.out_feat in
     let same = ap (λ (q : List ℕ). saying line 0 (with_layer l (length (weights_in q)) (behind (length t.args.«record».now) st))) p in
-    concluded st t.args.«record».now weights (value (layer c.in-Layer.format c.in-Layer.in_feat c.in-Layer.out_feat)) _ _ _ (a_layer k) (silent _ _ _ (e.value ∙ same) refl) (e.weights_after ∙ ap (λ (q : List ℕ). laid weights 0 (weights_in q)) p)
+    let both = concluded st t.args.«record».now weights (value (layer c.in-Layer.format c.in-Layer.in_feat c.in-Layer.out_feat)) _ _ _ (sym c.read.ensures ∙ ap item_says c.in-Layer.is) (silent _ _ _ (e.value ∙ same) refl) (e.weights_after ∙ ap (λ (q : List ℕ). laid weights 0 (weights_in q)) p) in
+    record { decides = both.0; weights_after = both.1 }
 
 pub returns-in-Window : goal.returns-in-Window
 returns-in-Window c =
     let e = c.answer_window.ensures in
     let p = c.payload-in-Window.ensures in
-    let k = c in
-    let t = at_window k in
+    let t = c in
     let st = t.args.st in
     let s = t.args.«record».now in
     let weights = t.args.weights.now in
@@ -137,15 +111,18 @@ returns-in-Window c =
     let kept = take st.weight_bytes weights in
     let rest = drop l.out_feat t.args.y.now in
     let shown = e.y_after ∙ ap (λ (q : List ℕ). outputs_of l kept (readings_of (readings_in q) l) ++ rest) p in
-    concluded st s weights (value window) _ _ _ (a_window k) (shows _ _ l.out_feat _ rest e.value shown (as_many l _ t.pre.0.0 _ _) t.pre.0.0.outputs) (stays st s weights t.pre.0.0 t.pre.0.1)
+    let both = concluded st s weights (value window) _ _ _ (sym c.read.ensures ∙ ap item_says c.in-Window.is) (shows _ _ l.out_feat _ rest e.value shown (as_many l _ c.requires.sound.0 _ _) c.requires.sound.0.outputs) (stays st s weights c.requires.sound.0 c.requires.sound.1) in
+    record { decides = both.0; weights_after = both.1 }
 
 pub returns-in-WarmUp : goal.returns-in-WarmUp
 returns-in-WarmUp c =
     let t = c in
-    concluded t.args.st t.args.«record».now t.args.weights.now (value warm_up) _ _ _ (sym c.read.ensures ∙ ap item_says c.in-WarmUp.is) (silent _ _ _ c.refuse_window.ensures refl) (stays t.args.st t.args.«record».now t.args.weights.now t.requires.sound.0 t.requires.sound.1)
+    let both = concluded t.args.st t.args.«record».now t.args.weights.now (value warm_up) _ _ _ (sym c.read.ensures ∙ ap item_says c.in-WarmUp.is) (silent _ _ _ c.refuse_window.ensures refl) (stays t.args.st t.args.«record».now t.args.weights.now t.requires.sound.0 t.requires.sound.1) in
+    record { decides = both.0; weights_after = both.1 }
 
 pub returns-in-Refused : goal.returns-in-Refused
 returns-in-Refused c =
     let k = c in
     let t = k in
-    concluded t.args.st t.args.«record».now t.args.weights.now (refused k.in-Refused.why) _ _ _ (sym k.read.ensures ∙ ap item_says k.in-Refused.is) (silent _ _ _ c.stop.ensures refl) (stays t.args.st t.args.«record».now t.args.weights.now t.requires.sound.0 t.requires.sound.1)
+    let both = concluded t.args.st t.args.«record».now t.args.weights.now (refused k.in-Refused.why) _ _ _ (sym k.read.ensures ∙ ap item_says k.in-Refused.is) (silent _ _ _ c.stop.ensures refl) (stays t.args.st t.args.«record».now t.args.weights.now t.requires.sound.0 t.requires.sound.1) in
+    record { decides = both.0; weights_after = both.1 }

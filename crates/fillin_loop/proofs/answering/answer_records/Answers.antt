@@ -15,8 +15,8 @@ come_length buf u h = length-take-le (u.to - u.from) (drop u.from buf) (rw lengt
 left_in : (buf : List ℕ) (u : Unread) (n : ℕ) → InBuffer buf u → n ≤ length (unread_in buf u) → u.from + n ≤ u.to
 left_in buf u n h k = omega (arith, come_length buf u h, h)
 
-pub loop_init : goal.loop-init
-loop_init g c =
+pub loop-init : goal.loop-init
+loop-init g c =
     let s = begins c.start-st.result c.start-st.ensures in
     record {
       buf-long = refl;
@@ -26,8 +26,8 @@ loop_init g c =
       unread-in = record { in_order = omega arith; inside = omega arith };
     }
 
-pub answer_come_done_requires : goal.answer_come-done-requires
-answer_come_done_requires g c =
+pub answer_come-done-requires : goal.answer_come-done-requires
+answer_come-done-requires g c =
     let v = c.loop.invariant in
     let come = come_length c.loop.buf c.loop.unread v.unread-in in
     record {
@@ -38,17 +38,17 @@ answer_come_done_requires g c =
       count_fits = omega (arith, v.count_in);
     }
 
-pub shape_of_buf_in_Err : goal.shape_of-buf-in-Err
-shape_of_buf_in_Err g c = c.loop.invariant.buf-long
+pub shape_of-buf-in-Err : goal.shape_of-buf-in-Err
+shape_of-buf-in-Err g c = c.loop.invariant.buf-long
 
-pub overflow_add_unread : goal.overflow_add-unread
-overflow_add_unread g c =
+pub overflow_add-unread : goal.overflow_add-unread
+overflow_add-unread g c =
     let v = c.loop.invariant in
     let behind = left_in c.loop.buf c.loop.unread c.answer_come-done.result.bytes v.unread-in c.answer_come-done.ensures.reached.bytes_in in
     omega (arith, behind, v.unread-in, v.buf-long, c.requires)
 
-pub loop_preserved_in_On : goal.loop-preserved-in-On
-loop_preserved_in_On g c =
+pub loop-preserved-in-On : goal.loop-preserved-in-On
+loop-preserved-in-On g c =
     let v = c.loop.invariant in
     let r = c.answer_come-done.ensures.reached in
     let come = come_length c.loop.buf c.loop.unread v.unread-in in
@@ -61,22 +61,22 @@ loop_preserved_in_On g c =
       unread-in = record { in_order = behind; inside = v.unread-in.inside };
     }
 
-pub shape_of_buf_in_Over : goal.shape_of-buf-in-Over
-shape_of_buf_in_Over g c = c.loop.invariant.buf-long
+pub shape_of-buf-in-Over : goal.shape_of-buf-in-Over
+shape_of-buf-in-Over g c = c.loop.invariant.buf-long
 
-pub read_on_unread_requires : goal.read_on-unread-requires
-read_on_unread_requires g c =
+pub read_on-unread-requires : goal.read_on-unread-requires
+read_on-unread-requires g c =
     let v = c.loop.invariant in
     let r = c.answer_come-done.ensures.reached in
     let come = come_length c.loop.buf c.loop.unread v.unread-in in
     let behind = left_in c.loop.buf c.loop.unread c.answer_come-done.result.bytes v.unread-in r.bytes_in in
     (record { in_order = behind; inside = v.unread-in.inside }, omega (arith, r.short c.in-More.is, come, v.buf-long, c.requires), omega (arith, c.requires))
 
-pub shape_of_buf_in_Some : goal.shape_of-buf-in-Some
-shape_of_buf_in_Some g c = c.read_on-unread.auto.buf ∙ c.loop.invariant.buf-long
+pub shape_of-buf-in-Some : goal.shape_of-buf-in-Some
+shape_of-buf-in-Some g c = c.read_on-unread.auto.buf ∙ c.loop.invariant.buf-long
 
-pub loop_preserved : goal.loop-preserved
-loop_preserved g c =
+pub loop-preserved : goal.loop-preserved
+loop-preserved g c =
     let v = c.loop.invariant in
     let r = c.answer_come-done.ensures.reached in
     let come = come_length c.loop.buf c.loop.unread v.unread-in in
@@ -88,5 +88,5 @@ loop_preserved g c =
       unread-in = c.read_on-unread.ensures.within;
     }
 
-pub shape_of_buf : goal.shape_of-buf
-shape_of_buf g c = c.loop.invariant.buf-long
+pub shape_of-buf : goal.shape_of-buf
+shape_of-buf g c = c.loop.invariant.buf-long

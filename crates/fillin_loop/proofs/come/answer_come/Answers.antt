@@ -20,28 +20,28 @@ size_in come from n ended h e = omega (arith, simp length-drop at (next_within (
 bytes_of : (come : List ℕ) (from n : ℕ) → take (from + n - from) (drop from come) ≡ take n (drop from come)
 bytes_of come from n = let e : from + n - from ≡ n = omega arith in ap (λ (m : ℕ). take m (drop from come)) e
 
-pub returns_in_default_clause_lines_after : goal.returns-in_default-clause-lines_after
-returns_in_default_clause_lines_after c =
+pub returns-in_default-clause-lines_after : goal.returns-in_default-clause-lines_after
+returns-in_default-clause-lines_after c =
     let more : next_in (drop c.loop.done.bytes c.args.come.now) c.args.ended ≡ More = next_of c.args.come.now c.loop.done.bytes c.args.ended c.next_record.result c.next_record.ensures ∙ c.in_default.is in
     waits c.loop.invariant c.loop-test.true more
 
-pub returns_in_default_clause_reached : goal.returns-in_default-clause-reached
-returns_in_default_clause_reached c =
+pub returns-in_default-clause-reached : goal.returns-in_default-clause-reached
+returns-in_default-clause-reached c =
     let more : next_in (drop c.loop.done.bytes c.args.come.now) c.args.ended ≡ More = next_of c.args.come.now c.loop.done.bytes c.args.ended c.next_record.result c.next_record.ensures ∙ c.in_default.is in
     reached_waiting c.loop.invariant c.loop-test.true more (length c.loop.lines) (omega (arith, c.loop.invariant.lines_long, c.requires.lines_fit))
 
-pub overflow_add_end : goal.overflow_add-end
-overflow_add_end c =
+pub overflow_add-end : goal.overflow_add-end
+overflow_add-end c =
     let whole : next_in (drop c.loop.done.bytes c.args.come.now) c.args.ended ≡ Bytes c.in-Bytes.size = next_of c.args.come.now c.loop.done.bytes c.args.ended c.next_record.result c.next_record.ensures ∙ c.in-Bytes.is in
     omega (arith, size_in c.args.come.now c.loop.done.bytes c.in-Bytes.size c.args.ended c.loop.invariant.within.bytes_in whole, c.requires.offset_fits)
 
-pub slice_bounds_answer_one_end : goal.slice_bounds-answer_one-end
-slice_bounds_answer_one_end c =
+pub slice_bounds-answer_one-end : goal.slice_bounds-answer_one-end
+slice_bounds-answer_one-end c =
     let whole : next_in (drop c.loop.done.bytes c.args.come.now) c.args.ended ≡ Bytes c.in-Bytes.size = next_of c.args.come.now c.loop.done.bytes c.args.ended c.next_record.result c.next_record.ensures ∙ c.in-Bytes.is in
     omega (arith, size_in c.args.come.now c.loop.done.bytes c.in-Bytes.size c.args.ended c.loop.invariant.within.bytes_in whole)
 
-pub returns_then_is_over_clause_lines_after : goal.returns-then-is_over-clause-lines_after
-returns_then_is_over_clause_lines_after c =
+pub returns-then-is_over-clause-lines_after : goal.returns-then-is_over-clause-lines_after
+returns-then-is_over-clause-lines_after c =
     let from = c.loop.done.bytes in
     let size = c.in-Bytes.size in
     let come = c.args.come.now in
@@ -50,8 +50,8 @@ returns_then_is_over_clause_lines_after c =
     let a = c.answer_one-done in
     ends c.loop.invariant c.loop-test.true size (take (from + size - from) (drop from come)) a.result a.new.weights a.new.lines whole own a.ensures.lines_after (sym c.is_over.ensures ∙ c.if-is_over.true)
 
-pub loop_preserved : goal.loop-preserved
-loop_preserved c =
+pub loop-preserved : goal.loop-preserved
+loop-preserved c =
     let from = c.loop.done.bytes in
     let size = c.in-Bytes.size in
     let come = c.args.come.now in
@@ -62,5 +62,5 @@ loop_preserved c =
     let within = one_within c.loop.invariant c.loop-test.true size bytes a.result a.new.weights a.new.lines whole own a.ensures.lines_after a.ensures.carried.0 a.ensures.carried.1 in
     goes_on c.loop.invariant c.loop-test.true size bytes a.result a.new.weights a.new.lines whole own a.ensures.lines_after within a.auto.weights a.auto.lines (sym c.is_over.ensures ∙ c.if-is_over.false)
 
-pub returns_clause_lines_after : goal.returns-clause-lines_after
-returns_clause_lines_after c = all_turns c.loop.invariant c.loop-test.false
+pub returns-clause-lines_after : goal.returns-clause-lines_after
+returns-clause-lines_after c = all_turns c.loop.invariant c.loop-test.false
