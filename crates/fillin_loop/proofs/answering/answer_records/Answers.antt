@@ -19,74 +19,74 @@ pub loop-init : goal.loop-init
 loop-init g c =
     let s = begins c.start-st.result c.start-st.ensures in
     record {
-      buf-long = refl;
+      buf_long = refl;
       sound = s.0;
       offset_in = omega (arith, s.1);
       count_in = omega (arith, s.1);
-      unread-in = record { in_order = omega arith; inside = omega arith };
+      unread_in = record { in_order = omega arith; inside = omega arith };
     }
 
 pub answer_come-done-requires : goal.answer_come-done-requires
 answer_come-done-requires g c =
     let v = c.loop.invariant in
-    let come = come_length c.loop.buf c.loop.unread v.unread-in in
+    let come = come_length c.loop.buf c.loop.unread v.unread_in in
     record {
       sound = v.sound;
       weights_fit = omega arith;
       lines_fit = omega arith;
-      offset_fits = omega (arith, come, v.unread-in, v.buf-long, v.offset_in, c.requires);
+      offset_fits = omega (arith, come, v.unread_in, v.buf_long, v.offset_in, c.requires);
       count_fits = omega (arith, v.count_in);
     }
 
 pub shape_of-buf-in-Err : goal.shape_of-buf-in-Err
-shape_of-buf-in-Err g c = c.loop.invariant.buf-long
+shape_of-buf-in-Err g c = c.loop.invariant.buf_long
 
 pub overflow_add-unread : goal.overflow_add-unread
 overflow_add-unread g c =
     let v = c.loop.invariant in
-    let behind = left_in c.loop.buf c.loop.unread c.answer_come-done.result.bytes v.unread-in c.answer_come-done.ensures.reached.bytes_in in
-    omega (arith, behind, v.unread-in, v.buf-long, c.requires)
+    let behind = left_in c.loop.buf c.loop.unread c.answer_come-done.result.bytes v.unread_in c.answer_come-done.ensures.reached.bytes_in in
+    omega (arith, behind, v.unread_in, v.buf_long, c.requires)
 
 pub loop-preserved-in-On : goal.loop-preserved-in-On
 loop-preserved-in-On g c =
     let v = c.loop.invariant in
     let r = c.answer_come-done.ensures.reached in
-    let come = come_length c.loop.buf c.loop.unread v.unread-in in
-    let behind = left_in c.loop.buf c.loop.unread c.answer_come-done.result.bytes v.unread-in r.bytes_in in
+    let come = come_length c.loop.buf c.loop.unread v.unread_in in
+    let behind = left_in c.loop.buf c.loop.unread c.answer_come-done.result.bytes v.unread_in r.bytes_in in
     record {
-      buf-long = v.buf-long;
+      buf_long = v.buf_long;
       sound = r.sound;
-      offset_in = omega (arith, r.offset_in, r.bytes_in, come, v.unread-in, v.buf-long, v.offset_in, c.requires);
+      offset_in = omega (arith, r.offset_in, r.bytes_in, come, v.unread_in, v.buf_long, v.offset_in, c.requires);
       count_in = omega (arith, r.count_in, v.count_in);
-      unread-in = record { in_order = behind; inside = v.unread-in.inside };
+      unread_in = record { in_order = behind; inside = v.unread_in.inside };
     }
 
 pub shape_of-buf-in-Over : goal.shape_of-buf-in-Over
-shape_of-buf-in-Over g c = c.loop.invariant.buf-long
+shape_of-buf-in-Over g c = c.loop.invariant.buf_long
 
 pub read_on-unread-requires : goal.read_on-unread-requires
 read_on-unread-requires g c =
     let v = c.loop.invariant in
     let r = c.answer_come-done.ensures.reached in
-    let come = come_length c.loop.buf c.loop.unread v.unread-in in
-    let behind = left_in c.loop.buf c.loop.unread c.answer_come-done.result.bytes v.unread-in r.bytes_in in
-    (record { in_order = behind; inside = v.unread-in.inside }, omega (arith, r.short c.in-More.is, come, v.buf-long, c.requires), omega (arith, c.requires))
+    let come = come_length c.loop.buf c.loop.unread v.unread_in in
+    let behind = left_in c.loop.buf c.loop.unread c.answer_come-done.result.bytes v.unread_in r.bytes_in in
+    (record { in_order = behind; inside = v.unread_in.inside }, omega (arith, r.short c.in-More.is, come, v.buf_long, c.requires), omega (arith, c.requires))
 
 pub shape_of-buf-in-Some : goal.shape_of-buf-in-Some
-shape_of-buf-in-Some g c = c.read_on-unread.auto.buf ∙ c.loop.invariant.buf-long
+shape_of-buf-in-Some g c = c.read_on-unread.auto.buf ∙ c.loop.invariant.buf_long
 
 pub loop-preserved : goal.loop-preserved
 loop-preserved g c =
     let v = c.loop.invariant in
     let r = c.answer_come-done.ensures.reached in
-    let come = come_length c.loop.buf c.loop.unread v.unread-in in
+    let come = come_length c.loop.buf c.loop.unread v.unread_in in
     record {
-      buf-long = c.read_on-unread.auto.buf ∙ v.buf-long;
+      buf_long = c.read_on-unread.auto.buf ∙ v.buf_long;
       sound = r.sound;
-      offset_in = omega (arith, r.offset_in, r.bytes_in, come, v.unread-in, v.buf-long, v.offset_in, c.requires);
+      offset_in = omega (arith, r.offset_in, r.bytes_in, come, v.unread_in, v.buf_long, v.offset_in, c.requires);
       count_in = omega (arith, r.count_in, v.count_in);
-      unread-in = c.read_on-unread.ensures.within;
+      unread_in = c.read_on-unread.ensures.within;
     }
 
 pub shape_of-buf : goal.shape_of-buf
-shape_of-buf g c = c.loop.invariant.buf-long
+shape_of-buf g c = c.loop.invariant.buf_long
