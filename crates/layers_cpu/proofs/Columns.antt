@@ -149,6 +149,11 @@ module _ (f : Format) (w : List ℕ) (n : ℕ) (scratch : List Float) where
   unfolding scratch_of
   scratch_more o old row e r = rw (e, r, behind o, add-one)
 
+  pub length_scratch : (o : ℕ) → n ≤ length scratch → length (scratch_of f w n scratch o) ≡ length scratch
+  unfolding scratch_of
+  length_scratch zero h = refl
+  length_scratch (suc o) h = length_filled (row_weight f w n o) scratch n h
+
   -- after the last row, where there is a row of readings
   pub scratch_last : (batch out : ℕ) → (batch ≡ 0 → ⊥) → scratch_of f w n scratch out ≡ cond (eqb (batch * out) 0) scratch (filled (row_weight f w n (out - 1)) scratch n)
   unfolding scratch_of

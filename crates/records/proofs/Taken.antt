@@ -1,5 +1,4 @@
 -- What is known of a layer and of a window that were read. Assumes nothing.
-use Prim.{Unit}
 use Prim.Native.Nat.{ℕ, ◌+◌, ◌*◌, ◌%◌, ◌/◌, ◌≤◌}
 use mathlib.Core.Path.{◌≡◌, refl}
 use mathlib.Core.Bool.{Bool, true, false, cond}
@@ -19,7 +18,7 @@ use Rattle.layouts.specs.declared.format.Named.TheVariants.{Known, Unknown}
 use Rattle.layouts.proofs.Sizes.{sizes}
 use Rattle.layers_shape.specs.Shapes.{weight_bytes}
 use Rattle.frames.specs.Frame.{Frame, ended, torn, whole, payload_of}
-use Rattle.records.specs.Found.{Found, nothing, layer, window, warm_up}
+use Rattle.records.specs.Found.{Found, layer, window, warm_up}
 use Rattle.records.specs.Kinds.{format_in, in_feat_in, out_feat_in, readings_in, has_zero, sizes_refusal, format_found, layer_found, window_found, kind_found, found}
 use Rattle.records.proofs.UpTo.{up_to_lem}
 

@@ -1,7 +1,5 @@
 -- Each call's contract is met by one answer alone, and by one content of its lent memory. Assumes nothing.
 use mathlib.Core.Path.{◌≡◌, refl}
-use mathlib.Core.List.{List}
-use Prim.Native.Nat.{ℕ}
 use Rattle.refusals.proofs.Once.{OneResult, OneCall, same}
 use Rattle.frames.proofs.Unique.{OneList}
 use Rattle.records.specs.declared.reader.Item.{Item}

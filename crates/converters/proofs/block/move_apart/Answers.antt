@@ -1,6 +1,6 @@
 -- `block::move_apart` meets its contract: in turn k the neighbours 2 k and 2 k + 1 are filled. Assumes nothing.
 use mathlib.Core.Path.{sym, ◌∙◌}
-use Prim.Native.Nat.{◌-◌, ◌/◌}
+use Prim.Native.Nat.{◌/◌}
 use lib.ListN.{length-set}
 use native.Mathlib.Omega.{arith}
 use Rattle.layouts.proofs.Two.{own_neighbours, pairs_none, pairs_more, pairs_all}

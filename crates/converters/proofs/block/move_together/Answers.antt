@@ -1,6 +1,6 @@
 -- `block::move_together` meets its contract: in turn k the places k and k + 8 are filled. Assumes nothing.
 use mathlib.Core.Path.{sym, ◌∙◌}
-use Prim.Native.Nat.{◌-◌, ◌%◌, ◌<◌}
+use Prim.Native.Nat.{◌%◌, ◌<◌}
 use lib.ListN.{length-set}
 use native.Mathlib.Omega.{arith}
 use Rattle.layouts.proofs.Two.{own_halves, pairs_none, pairs_more, pairs_all}

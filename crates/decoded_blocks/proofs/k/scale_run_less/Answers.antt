@@ -1,6 +1,5 @@
 -- `k::scale_run_less` meets its contract: the places are filled in turn. Assumes nothing.
 use mathlib.Core.Path.{refl, sym, ◌∙◌}
-use Prim.Native.Nat.{◌-◌}
 use Rattle.memory.proofs.Filled.{filling_start, filling_more, filling_done}
 use Rattle.decoded_blocks.proofs.k.scale_run_less.Invariants.{at}
 use Rattle.decoded_blocks.proofs.k.scale_run_less.Goals as goal

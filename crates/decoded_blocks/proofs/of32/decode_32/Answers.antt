@@ -1,16 +1,12 @@
 -- `of32::decode_32` meets its contract: both ways have the block's own scale, and multiply its own whole numbers by it. Assumes nothing.
 use mathlib.Core.Path.{◌≡◌, ap, ◌∙◌}
 use mathlib.Core.List.{List}
-use mathlib.Core.Logic.{⊎_elim}
 use Prim.Native.Nat.{ℕ}
 use lib.IntN.{ℤ}
-use lib.ListN.{length}
 use native.Mathlib.Omega.{arith}
 use Rattle.memory.specs.Lists.{table}
-use Rattle.memory.proofs.Filled.{length_table}
 use Rattle.halves.specs.Binary16.{widened}
 use Rattle.numbers.specs.Fields.{le16}
-use Rattle.layouts.specs.Formats.{bytes32}
 use Rattle.layouts.specs.Of32.{quant32}
 use Rattle.layouts.specs.declared.format.Format32.{Format32}
 use Rattle.layouts.specs.declared.format.Format32.TheVariants.{Iq4Nl}

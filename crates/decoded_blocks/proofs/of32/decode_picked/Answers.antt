@@ -1,6 +1,6 @@
 -- `of32::decode_picked` meets its contract: in turn k the places k and k + 16 are filled. Assumes nothing.
 use mathlib.Core.Path.{◌≡◌, sym, ap, ◌∙◌}
-use Prim.Native.Nat.{ℕ, ◌+◌, ◌-◌, ◌%◌, ◌/◌, ◌<◌}
+use Prim.Native.Nat.{ℕ, ◌+◌, ◌%◌, ◌/◌, ◌<◌}
 use lib.ListN.{get_or}
 use lib.Ieee.{nan}
 use native.Mathlib.Omega.{arith}

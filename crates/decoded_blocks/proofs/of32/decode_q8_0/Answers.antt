@@ -1,7 +1,6 @@
 -- `of32::decode_q8_0` meets its contract: the places are filled in turn. Assumes nothing.
 use Rattle.std.proofs.Common.{rules}
 use mathlib.Core.Path.{ap, ◌∙◌}
-use Prim.Native.Nat.{◌-◌}
 use mir.Syntax.{w8}
 use Rattle.halves.specs.Binary16.{widened}
 use Rattle.numbers.proofs.Signed.{read_is}

@@ -1,7 +1,6 @@
 -- `of32::scale_run` meets its contract: the places are filled in turn. Assumes nothing.
 use Rattle.std.proofs.Common.{rules}
 use mathlib.Core.Path.{ap}
-use Prim.Native.Nat.{◌-◌}
 use mir.Syntax.{w8}
 use Rattle.numbers.proofs.Signed.{read_is}
 use Rattle.memory.proofs.Filled.{filling_start, filling_more, filling_done}

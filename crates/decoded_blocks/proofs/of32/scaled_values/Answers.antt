@@ -2,7 +2,6 @@
 use Rattle.std.proofs.Common.{rules}
 use mathlib.Core.Path.{refl, ap, ◌∙◌}
 use mathlib.Core.List.{List}
-use Prim.Native.Nat.{◌-◌}
 use lib.IntN.{ℤ}
 use mir.Syntax.{w8}
 use Rattle.numbers.proofs.Signed.{read_is}

@@ -1,7 +1,7 @@
 -- `runs::eight_terms` meets its contract. Assumes nothing.
 use Rattle.std.proofs.Common.{rules}
 use mathlib.Core.Path.{sym, ap, ◌∙◌, subst}
-use Prim.Native.Nat.{◌+◌, ◌-◌}
+use Prim.Native.Nat.{◌+◌}
 use lib.ListN.{get_or, set}
 use lib.Ieee.{Float, nan, binary32, add, mul, of_int}
 use mir.Syntax.{w8}

@@ -1,6 +1,5 @@
 -- `sub_blocks::eight_terms` meets its contract. Assumes nothing.
 use mathlib.Core.Path.{sym, ◌∙◌}
-use Prim.Native.Nat.{◌-◌}
 use Rattle.sums_lanes.proofs.LaneLaws.{adding_start, adding_more, adding_done}
 use Rattle.dots_fused_block.specs.Inner.{sub_block_terms}
 use native.Mathlib.Omega.{arith}

@@ -1,6 +1,6 @@
 -- `whole::window_line` meets its contract: after k turns the first k outputs are shown. Assumes nothing.
 use mathlib.Core.Path.{refl}
-use Prim.Native.Nat.{◌-◌, ◌≤◌, ◌<◌}
+use Prim.Native.Nat.{◌≤◌, ◌<◌}
 use native.Mathlib.Omega.{arith}
 use mathlib.Core.List.{[], ◌∷◌, append_assoc}
 use lib.ListN.{length}

@@ -1,6 +1,6 @@
 -- `k::quants_q6k` meets its contract: in turn l the eight places l, 32 + l, .. are filled. Assumes nothing.
 use mathlib.Core.Path.{◌≡◌, refl, ◌∙◌}
-use Prim.Native.Nat.{ℕ, ◌+◌, ◌-◌, ◌*◌, ◌/◌, ◌%◌, ◌<◌}
+use Prim.Native.Nat.{ℕ, ◌+◌, ◌*◌, ◌/◌, ◌%◌, ◌<◌}
 use lib.IntN.{pos, ◌-ℤ◌}
 use lib.ListN.{get_or, replicate}
 use Rattle.numbers.proofs.Signed.{byte_read_lem}

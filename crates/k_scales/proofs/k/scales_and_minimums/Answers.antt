@@ -1,6 +1,6 @@
 -- `k::scales_and_minimums` meets its contract: in turn j the places j and j + 8 are filled. Assumes nothing.
 use mathlib.Core.Path.{refl, ap, ◌∙◌}
-use Prim.Native.Nat.{◌-◌, ◌%◌}
+use Prim.Native.Nat.{◌%◌}
 use lib.ListN.{replicate}
 use lib.Ieee.{nan, binary32, of_bits}
 use Rattle.halves.specs.Binary16.{widened}

@@ -1,6 +1,5 @@
 -- `k::scales_q6k` meets its contract: the places are filled in turn. Assumes nothing.
 use mathlib.Core.Path.{refl, ap, ◌∙◌}
-use Prim.Native.Nat.{◌-◌}
 use mir.Syntax.{w8}
 use Rattle.halves.specs.Binary16.{widened}
 use Rattle.numbers.proofs.Signed.{read_is}

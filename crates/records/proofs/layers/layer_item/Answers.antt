@@ -10,7 +10,6 @@ use Rattle.refusals.specs.Said.{Said, value, no, check_says}
 use Rattle.refusals.specs.Refusals.{given}
 use Rattle.refusals.proofs.Laws.{given_yes, given_no, else_first, else_later}
 use Rattle.layouts.specs.declared.format.Named.{Named}
-use Rattle.layouts.specs.declared.format.Named.TheVariants.{Known}
 use Rattle.layouts.specs.declared.format.FormatK.{FormatK}
 use Rattle.layers_shape.specs.Shapes.{weight_bytes}
 use Rattle.records.specs.Found.{Found, layer}

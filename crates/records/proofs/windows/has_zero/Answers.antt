@@ -1,7 +1,6 @@
 -- `windows::has_zero` meets its contract: `found` says whether one of the first k values has all bits zero. Assumes nothing.
 use native.Mathlib.Omega.{arith}
 use mathlib.Core.Path.{◌≡◌, refl, sym, ap, ◌∙◌}
-use Prim.Native.Nat.{◌-◌}
 use Rattle.records.specs.Kinds.{has_zero}
 use Rattle.records.proofs.Zeros.{zero_found, zero_keeps}
 use Rattle.records.proofs.windows.has_zero.Goals.{then-bits_at-eq0, else-bits_at-eq0}

@@ -1,7 +1,7 @@
 -- `windows::readings` meets its contract: the first k places are filled. Assumes nothing.
 use native.Mathlib.Omega.{arith}
 use mathlib.Core.Path.{◌≡◌, refl, ap, ◌∙◌}
-use Prim.Native.Nat.{ℕ, ◌-◌, ◌*◌}
+use Prim.Native.Nat.{ℕ, ◌*◌}
 use mathlib.Core.List.{List}
 use lib.Ieee.{Float, binary32, of_bits}
 use Rattle.numbers.specs.Fields.{le32}

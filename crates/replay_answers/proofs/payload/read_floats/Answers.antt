@@ -1,8 +1,7 @@
 -- `payload::read_floats` meets its contract: it fills its places from the front. Assumes nothing.
 use mathlib.Core.Path.{refl, ap, ◌∙◌}
-use Prim.Native.Nat.{◌-◌}
 use native.Mathlib.Omega.{arith}
-use lib.ListN.{length, length-set}
+use lib.ListN.{length-set}
 use lib.Ieee.{binary32, of_bits}
 use Rattle.memory.proofs.Filled.{filling_start, filling_more, filling_done}
 use Rattle.replay_answers.specs.Payload.{float_at}

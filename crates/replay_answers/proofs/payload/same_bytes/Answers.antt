@@ -1,11 +1,8 @@
 -- `payload::same_bytes` meets its contract: every byte passed is the same. Assumes nothing.
 use mathlib.Core.Path.{◌≡◌, sym}
-use mathlib.Core.Bool.{true}
-use Prim.Native.Nat.{◌-◌}
 use native.Mathlib.Omega.{arith}
 use lib.ListN.{length}
 use borrow.Author.Tests.{lt-ltb, le-ltb, eq-eqb, ne_eqb}
-use Rattle.memory.specs.Lists.{every}
 use Rattle.memory.proofs.Every.{every_none, every_more, every_not}
 use Rattle.replay_answers.specs.Same.{same_bytes}
 use Rattle.replay_answers.proofs.payload.same_bytes.Goals as goal

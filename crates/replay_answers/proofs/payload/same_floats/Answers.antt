@@ -1,11 +1,8 @@
 -- `payload::same_floats` meets its contract: every float passed is the same. Assumes nothing.
 use mathlib.Core.Path.{◌≡◌, sym, ap, ◌∙◌}
-use mathlib.Core.Bool.{true}
-use Prim.Native.Nat.{◌-◌}
 use native.Mathlib.Omega.{arith}
 use lib.ListN.{length, get_or}
 use lib.Ieee.{nan, binary32, of_bits}
-use Rattle.memory.specs.Lists.{every}
 use Rattle.memory.proofs.Every.{every_none, every_more, every_not}
 use Rattle.replay_answers.specs.Payload.{float_at}
 use Rattle.replay_answers.specs.Same.{same_bits, same_floats}

@@ -4,7 +4,6 @@ use mathlib.Core.Bool.{true}
 use Prim.Native.Nat.{◌-◌, ◌≤◌}
 use lib.ListN.{length}
 use Rattle.memory.specs.Lists.{every}
-use Rattle.replay_answers.specs.Payload.{float_at}
 use Rattle.replay_answers.specs.Same.{same_float_at}
 use Rattle.replay_answers.proofs.payload.same_floats.Given as goal
 

@@ -2,8 +2,8 @@
 use native.Mathlib.Omega.{arith}
 use borrow.Author.Tests.{eq-eqb, ne_eqb}
 use mathlib.Core.Path.{refl, ◌∙◌, ap}
-use Prim.Native.Nat.{◌<◌, ◌-◌}
-use lib.ListN.{length, take}
+use Prim.Native.Nat.{◌<◌}
+use lib.ListN.{length}
 use lib.Seq.{take_all}
 use Rattle.stepped_shape.specs.Layer.{open_count}
 use Rattle.stepped_shape.proofs.Marks.{open_more}

@@ -6,7 +6,6 @@ use lib.ListN.{take}
 use lib.Seq.{get_or-take, length-take-le}
 use lib.Ieee.{nan}
 use Rattle.sums_lanes.specs.Lanes.{products, chunk_sum}
-use Rattle.sums.specs.Rows.{chunks_in}
 use Rattle.sums_lanes.proofs.LaneLaws.{products_part}
 use Rattle.sums.proofs.RowLaws.{chunk_cong, chunk_part, one_chunk, chunking_start, chunking_more, chunking_met}
 use Rattle.sums.proofs.dot.row_dot.Goals as goal

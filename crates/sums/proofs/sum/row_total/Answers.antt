@@ -4,7 +4,6 @@ use Prim.Native.Nat.{◌-◌, ◌*◌}
 use native.Mathlib.Omega.{arith}
 use lib.Seq.{length-take-le}
 use Rattle.sums_lanes.specs.Lanes.{values}
-use Rattle.sums.specs.Rows.{chunks_in}
 use Rattle.sums_lanes.proofs.LaneLaws.{values_part}
 use Rattle.sums.proofs.RowLaws.{chunk_part, chunking_start, chunking_more, chunking_met}
 use Rattle.sums.proofs.sum.row_total.Goals as goal

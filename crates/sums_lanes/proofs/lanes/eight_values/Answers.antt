@@ -1,5 +1,4 @@
 -- `lanes::eight_values` meets its contract. Assumes nothing.
-use Prim.Native.Nat.{◌-◌}
 use native.Mathlib.Omega.{arith}
 use lib.ListN.{length}
 use Rattle.sums_lanes.specs.Lanes.{values}

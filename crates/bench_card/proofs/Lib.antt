@@ -1,0 +1,2 @@
+-- How the count of wrong rows grows.
+pub mod Counted
