@@ -4,7 +4,7 @@ use Prim.Native.Nat.{ℕ}
 use mathlib.Core.List.{List}
 use Rattle.refusals.specs.Said.{Said}
 use Rattle.quantizers.specs.declared.lost.Lost.{Lost}
-use Rattle.c_answers.specs.Answers.{number_of, numbered, laid_out, blocks_after, numbered_blocks, laid_out_blocks, laid_out_beside}
+use Rattle.c_answers.specs.Answers.{number_of, numbered, blocks_after, numbered_blocks, laid_out_blocks, laid_out_beside}
 use Rattle.c_answers.specs.Lost.{lost_after, numbered_lost}
 
 module _ {A M : Type 0} where

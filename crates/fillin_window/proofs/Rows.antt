@@ -1,7 +1,7 @@
 -- A layer that is opened, whose first piece is worked, that is run to its end and closed row by row: each output is its row's dot in one go. Assumes nothing.
 use Prim.{Unit}
 use Prim.Native.Nat.{ℕ, ◌+◌, ◌-◌, ◌*◌, ◌≤◌, ◌<◌, min}
-use mathlib.Core.Path.{◌≡◌, refl, sym, ap, subst, ◌∙◌}
+use mathlib.Core.Path.{◌≡◌, refl, sym, ap, ◌∙◌}
 use mathlib.Core.Bool.{not}
 use mathlib.Core.List.{List, [], ◌∷◌, ◌++◌, Memᴰ}
 use native.Mathlib.Nat.{le_refl, le_trans, mul-le-mul_left, mul-one, min-eq_right}
@@ -16,12 +16,9 @@ use Rattle.refusals.specs.Sizes.{most_in, most_out}
 use Rattle.refusals.proofs.Laws.{apart, given_no, else_later}
 use Rattle.memory.specs.Lists.{table, filled}
 use Rattle.memory.proofs.Filled.{table_ext, length_table}
-use Rattle.layouts.specs.Formats.{format_named}
-use Rattle.layouts.specs.declared.format.FormatK.{FormatK}
-use Rattle.layouts.specs.declared.format.Named.TheVariants.{Known}
 use Rattle.layers_shape.specs.Shapes.{weight_bytes}
 use Rattle.stepped_shape.specs.declared.shape.Layer.{Layer}
-use Rattle.stepped_shape.specs.Layer.{Memory, memory, chunks, pieces, open_count, open_of, open_in_row}
+use Rattle.stepped_shape.specs.Layer.{Memory, chunks, pieces, open_count, open_of, open_in_row}
 use Rattle.stepped_shape.specs.Refusals.{shape_refusal, room_refusal, open_refusal, work_refusal, close_refusal}
 use Rattle.stepped_shape.proofs.Shapes.{row_within}
 use Rattle.stepped_shape.proofs.Says.{known_value, known_said}

@@ -2,7 +2,7 @@
 -- and the memory that came in. Definitions only.
 use Prim.{Unit}
 use Rattle.std.specs.Prelude.{ℕ, zero, suc, ◌+◌, min, ◌&&◌, cond, List, ltb, eqb, length, get_or, set, Float}
-use Rattle.refusals.specs.Said.{Said, value, refused}
+use Rattle.refusals.specs.Said.{Said, value}
 use Rattle.refusals.specs.Refusals.{or_else, carried_out}
 use Rattle.memory.specs.Lists.{filled}
 use Rattle.numbers.specs.Steps.{nought}

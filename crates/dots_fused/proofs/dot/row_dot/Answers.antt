@@ -1,8 +1,6 @@
 -- `dot::row_dot` meets its contract. Assumes nothing.
 use mathlib.Core.Path.{refl, sym}
-use Prim.Native.Nat.{◌-◌}
 use lib.Seq.{length-take-le}
-use Rattle.sums.specs.Rows.{chunks_in}
 use Rattle.sums.proofs.RowLaws.{chunking_start, chunking_more, chunking_met}
 use Rattle.dots_fused_block.specs.Terms.{terms}
 use native.Mathlib.Omega.{arith}

@@ -3,11 +3,11 @@ use Prim.{Unit}
 use mathlib.Core.Path.{◌≡◌, refl, ap, ◌∙◌}
 use borrow.Author.Rules.{rules}
 use lib.ListN.{length}
-use Rattle.refusals.specs.Said.{Said, done, outcome_says}
-use Rattle.stepped_shape.specs.Layer.{Memory, memory}
+use Rattle.refusals.specs.Said.{Said}
+use Rattle.stepped_shape.specs.Layer.{Memory}
 use Rattle.stepped_shape.specs.Progress.{progress_says}
 use Rattle.refusals.proofs.Laws.{never_refused}
-use Rattle.fillin_window.proofs.Rows.{open_done, Worked, worked}
+use Rattle.fillin_window.proofs.Rows.{open_done, worked}
 use Rattle.fillin_window.proofs.outputs.fill_outputs.Goals as goal
 
 pub returns-in_default : goal.returns-in_default

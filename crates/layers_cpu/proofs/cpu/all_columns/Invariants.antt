@@ -4,7 +4,7 @@ use Prim.Native.Nat.{◌-◌, ◌≤◌}
 use lib.ListN.{length}
 use Rattle.layers_shape.specs.Shapes.{reading_row}
 use Rattle.layers_cpu.specs.Says.{decoded_dot_at}
-use Rattle.layers_cpu.specs.Columns.{column, columns, scratch_of}
+use Rattle.layers_cpu.specs.Columns.{columns, scratch_of}
 use Rattle.layers_cpu.proofs.cpu.all_columns.Given as goal
 
 abbrev pub invariant-loop-o : goal.invariant-loop-o

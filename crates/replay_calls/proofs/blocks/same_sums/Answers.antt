@@ -1,12 +1,9 @@
 -- `blocks::same_sums` meets its contract: every sum passed is the same. Assumes nothing.
 use mathlib.Core.Path.{◌≡◌, sym, ap, ◌∙◌}
-use mathlib.Core.Bool.{true}
-use Prim.Native.Nat.{◌-◌}
 use mir.Syntax.{w32}
 use mir.Val.{of_z, to_z}
 use Rattle.numbers.proofs.Signed.{read_is}
-use Rattle.memory.specs.Lists.{every}
-use Rattle.dots_activation.specs.Whole.{elem, eq_z}
+use Rattle.dots_activation.specs.Whole.{elem}
 use Rattle.memory.proofs.Every.{every_none, every_more, every_not}
 use Rattle.dots_activation.proofs.Tests.{eq_z_same, eq_z_not}
 use native.Mathlib.Omega.{arith}

@@ -1,9 +1,8 @@
 -- `closing::close` meets its contract: a refusal, or the row's output written. Assumes nothing.
 use native.Mathlib.Omega.{arith}
 use mathlib.Core.Path.{◌∙◌}
-use lib.ListN.{length}
 use Rattle.refusals.proofs.Laws.{check_passed, refused_out, done_out}
-use Rattle.stepped_shape.proofs.Shapes.{Closable, closable}
+use Rattle.stepped_shape.proofs.Shapes.{closable}
 use Rattle.stepped_shape.proofs.Says.{by_unknown, by_known}
 use Rattle.stepped.specs.Says.{close_says}
 use Rattle.stepped.proofs.closing.close.Goals as goal

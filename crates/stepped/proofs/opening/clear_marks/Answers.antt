@@ -1,7 +1,6 @@
 -- `opening::clear_marks` meets its contract. Assumes nothing.
 use native.Mathlib.Omega.{arith}
 use mathlib.Core.Path.{refl}
-use Prim.Native.Nat.{◌-◌}
 use Rattle.memory.proofs.Filled.{filling_start, filling_more, filling_done}
 use Rattle.stepped.specs.Says.{no_mark}
 use Rattle.stepped.proofs.opening.clear_marks.Goals as goal

@@ -1,7 +1,6 @@
 -- `opening::clear_slots` meets its contract. Assumes nothing.
 use native.Mathlib.Omega.{arith}
 use mathlib.Core.Path.{refl}
-use Prim.Native.Nat.{◌-◌}
 use Rattle.memory.proofs.Filled.{filling_start, filling_more, filling_done}
 use Rattle.stepped.specs.Says.{no_sum}
 use Rattle.stepped.proofs.opening.clear_slots.Goals as goal

@@ -8,7 +8,7 @@ use lib.Seq.{length-take-le}
 use Rattle.refusals.proofs.Laws.{check_passed, refused_out, done_out}
 use Rattle.memory.specs.Lists.{table, filled}
 use Rattle.stepped_shape.specs.Layer.{pieces}
-use Rattle.stepped_shape.proofs.Shapes.{Openable, openable}
+use Rattle.stepped_shape.proofs.Shapes.{openable}
 use Rattle.stepped_shape.proofs.Says.{by_unknown, by_known}
 use Rattle.stepped.specs.Says.{no_sum, no_mark, open_says}
 use Rattle.stepped.proofs.opening.open.Goals as goal

@@ -1,13 +1,11 @@
 -- `running::run` meets its contract: a refusal, or the next open pieces worked and the marks counted. Assumes nothing.
 use native.Mathlib.Omega.{arith}
-use mathlib.Core.Path.{◌≡◌, sym, ◌∙◌, ap}
+use mathlib.Core.Path.{sym, ◌∙◌, ap}
 use Prim.Native.Nat.{ℕ}
-use lib.ListN.{length, take}
+use lib.ListN.{take}
 use lib.Seq.{length-take-le}
-use Rattle.refusals.specs.Said.{done}
 use Rattle.refusals.proofs.Laws.{else_first, carried_refused, check_passed, check_refused}
 use Rattle.stepped_shape.specs.Layer.{memory, open_count, open_of}
-use Rattle.stepped_shape.specs.Refusals.{work_refusal}
 use Rattle.stepped_shape.proofs.Shapes.{workable, few_pieces}
 use Rattle.stepped_shape.proofs.Says.{by_unknown, by_known}
 use Rattle.stepped.specs.Says.{work, run_says}

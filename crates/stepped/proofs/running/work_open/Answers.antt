@@ -1,7 +1,7 @@
 -- `running::work_open` meets its contract: each loop keeps the state that the visits so far give. Assumes nothing.
 use native.Mathlib.Omega.{arith}
 use mathlib.Core.Path.{◌≡◌, refl, sym, ◌∙◌, ap}
-use Prim.Native.Nat.{ℕ, ◌<◌, ◌-◌}
+use Prim.Native.Nat.{ℕ, ◌<◌}
 use Rattle.stepped_shape.specs.declared.shape.Layer.{Layer}
 use Rattle.stepped_shape.specs.Layer.{memory, chunks}
 use Rattle.stepped_shape.specs.Inner.{InLayer}
