@@ -4,7 +4,7 @@ ghost use Rattle.bench_rows.specs.Card.{row_at};
 ghost use Rattle.bench_rows.specs.Rows.{meant};
 
 // What a row asks, and what the card says.
-#[derive(Drop)]
+#[derive(Clone, Copy)]
 pub enum Row {
     // This f16 is this f32.
     Widens(u16, u32),

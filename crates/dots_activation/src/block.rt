@@ -11,7 +11,7 @@ use refusals::Check;
 
 // One float scale, 256 signed quants, eight sums of 32, and how many readings it was made of. It is made by
 // `block_with` and read by the block dots.
-#[derive(Drop)]
+#[derive(Clone, Copy)]
 pub struct Q8Block {
     pub d: f32,
     pub qs: [i8; 256],
@@ -21,7 +21,7 @@ pub struct Q8Block {
 
 // What the quantizer of a block answers: the block, or why it says no beside a block of zeros, since an enum cannot
 // hold arrays.
-#[derive(Drop)]
+#[derive(Clone, Copy)]
 pub struct Quantized {
     pub checked: Check,
     pub block: Q8Block,

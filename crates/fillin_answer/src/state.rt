@@ -16,7 +16,7 @@ pub struct State {
 }
 
 // The state then, how many bytes of the line's buffer are its text, and whether nothing more is answered.
-#[derive(Drop)]
+#[derive(Clone, Copy)]
 pub struct Reply {
     pub state: State,
     pub length: usize,

@@ -88,7 +88,7 @@ pub(crate) fn answer_behind_itself(rt: &HostRuntime, number: u64, file: &[u8]) -
 // cannot be written, as it is open for reading alone.
 pub(crate) fn answer_neither(rt: &HostRuntime, number: u64) -> io::Result<()> {
     let unreadable = Desk {
-        input: OpenOptions::new().write(true).open(rt, PLACE)?,
+        input: OpenOptions::new().write(true).create(true).open(rt, PLACE)?,
         output: rt.stdout(),
         most: LARGE,
     };

@@ -47,7 +47,7 @@ fn is_whole(s: &[u8]) -> bool
 }
 
 // What bytes begin with.
-#[derive(Drop)]
+#[derive(Clone, Copy)]
 pub enum Front {
     // Nothing is left.
     Ended,
@@ -97,7 +97,7 @@ pub fn rest(s: &[u8]) -> &[u8]
 }
 
 // What stands at the front of bytes that come in pieces.
-#[derive(Drop)]
+#[derive(Clone, Copy)]
 pub enum Next {
     // The next record, or what is left of the input where that is less: so many bytes.
     Bytes(usize),

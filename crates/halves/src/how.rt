@@ -3,7 +3,7 @@ ghost use Rattle.std.specs.Prelude.{◌≡◌};
 ghost use Rattle.halves.specs.How.{how_narrowed};
 
 // How a number fared when it was narrowed.
-#[derive(Drop)]
+#[derive(Clone, Copy)]
 pub enum How {
     // The half has its value, as zeros and infinities have.
     Exact,
@@ -16,7 +16,7 @@ pub enum How {
 }
 
 // A binary16's bits, and how the number that it was made of fared.
-#[derive(Drop)]
+#[derive(Clone, Copy)]
 pub struct Narrowed {
     pub bits: u16,
     pub how: How,

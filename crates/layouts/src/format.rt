@@ -70,7 +70,7 @@ pub fn block_values(format: Format) -> usize
 }
 
 // What a layer's format byte names.
-#[derive(Drop)]
+#[derive(Clone, Copy)]
 pub enum Named {
     Known(FormatK),
     Unknown,

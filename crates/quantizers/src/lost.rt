@@ -6,14 +6,14 @@ use halves::How;
 use refusals::Refusal;
 
 // How many blocks' scales were flushed to zero, and how many were sent to infinity.
-#[derive(Drop)]
+#[derive(Clone, Copy)]
 pub struct Lost {
     pub flushed: usize,
     pub infinite: usize,
 }
 
 // What a quantizer answers: that every block is packed, with what their scales lost, or why it says no.
-#[derive(Drop)]
+#[derive(Clone, Copy)]
 pub enum Packing {
     Packed(Lost),
     Refused(Refusal),

@@ -10,7 +10,7 @@ use frames::Front;
 use refusals::Refusal;
 
 // What the reader finds.
-#[derive(Drop)]
+#[derive(Clone, Copy)]
 pub enum Item {
     // Nothing is left.
     End,

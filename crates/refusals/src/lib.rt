@@ -128,21 +128,21 @@ pub const MOST_FLOATS: usize = 131_072;
 pub const MOST_BYTES: usize = 16_777_216;
 
 // What a check answers: that nothing is refused, or why the call says no.
-#[derive(Drop)]
+#[derive(Clone, Copy)]
 pub enum Check {
     Passed,
     Refused(Refusal),
 }
 
 // What a dot or a sum answers: its value, or why it says no.
-#[derive(Drop)]
+#[derive(Clone, Copy)]
 pub enum Answer {
     Value(f32),
     Refused(Refusal),
 }
 
 // What a call that fills lent memory answers: that it is done, or why it says no.
-#[derive(Drop)]
+#[derive(Clone, Copy)]
 pub enum Outcome {
     Done,
     Refused(Refusal),

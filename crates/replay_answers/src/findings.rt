@@ -5,7 +5,7 @@ ghost use Rattle.replay_answers.specs.Same.{same_bits, says_number, same_answer,
 
 use refusals::{Answer, Check, Outcome};
 
-#[derive(Drop)]
+#[derive(Clone, Copy)]
 pub enum Finding {
     // Our answer is the Rust's.
     Same,
