@@ -1,6 +1,6 @@
 -- The refusal of packed weights that are too few, by their blocks. Definitions only.
 use Rattle.std.specs.Prelude.{ℕ, ◌/◌}
-use Rattle.refusals.specs.declared.Refusal.{Refusal}
+use Rattle.refusals.specs.declared.refusal.Refusal.{Refusal}
 use Rattle.refusals.specs.Said.{blocks_short}
 use Rattle.layouts.specs.Formats.{bytes_k}
 use Rattle.layouts.specs.declared.format.FormatK.{FormatK}

@@ -1,11 +1,11 @@
 -- The formats' properties, and the bytes that name a layer's format. Definitions only.
-use Rattle.std.specs.Prelude.{ℕ, Bool, true, false, cond, eqb}
+use Rattle.std.specs.Prelude.{ℕ, Bool, true, false, cond, eqb, Ok, Err}
+use Rattle.refusals.specs.Said.{Said}
+use Rattle.refusals.specs.declared.refusal.Refusal.TheVariants.{Unknown}
 use Rattle.layouts.specs.declared.format.Format32.{Format32}
 use Rattle.layouts.specs.declared.format.Format32.TheVariants.{Q40, Q40Ggml, Q50, Q80, Iq4Nl}
 use Rattle.layouts.specs.declared.format.FormatK.{FormatK}
 use Rattle.layouts.specs.declared.format.FormatK.TheVariants.{Q4K, Q5K, Q6K}
-use Rattle.layouts.specs.declared.format.Named.{Named}
-use Rattle.layouts.specs.declared.format.Named.TheVariants.{Known, Unknown}
 use Rattle.layouts.specs.declared.format.Format.{Format}
 use Rattle.layouts.specs.declared.format.Format.TheVariants.{Of32, OfK}
 
@@ -43,7 +43,7 @@ abbrev pub block_values : Format → ℕ
 block_values (Of32 f) = 32
 block_values (OfK f) = 256
 
--- the format that a layer's format byte names: 4 is Q4_K, 5 is Q5_K, 6 is Q6_K, and any other names none
-unfoldable pub format_named : ℕ → Named
+-- the format that a layer's format byte names: 4 is Q4_K, 5 is Q5_K, 6 is Q6_K, and any other byte is refused with 12
+unfoldable pub format_named : ℕ → Said FormatK
 format_named byte =
-    cond (eqb byte 4) (Known Q4K) (cond (eqb byte 5) (Known Q5K) (cond (eqb byte 6) (Known Q6K) Unknown))
+    cond (eqb byte 4) (Ok Q4K) (cond (eqb byte 5) (Ok Q5K) (cond (eqb byte 6) (Ok Q6K) (Err Unknown)))

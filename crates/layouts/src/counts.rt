@@ -12,7 +12,7 @@ pub fn blocks_in(n: usize) -> usize
     requires { n ≤ most_in }
     ensures { result ≡ stretches_in 256 n }
 {
-    (n + 255) / 256
+    n.div_ceil(256)
 }
 
 // The refusal of too few weight bytes, with the whole blocks that they have and those that are needed.

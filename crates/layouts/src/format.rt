@@ -3,6 +3,8 @@
 ghost use Rattle.std.specs.Prelude.{◌≡◌};
 ghost use Rattle.layouts.specs.Formats.{bytes32, bytes_k, block_bytes, block_values, format_named};
 
+use refusals::Refusal;
+
 // The formats with 32 values to a block. Q4_0 is in two orders: with neighbours paired in a byte, and in GGML's.
 #[derive(Clone, Copy)]
 pub enum Format32 {
@@ -69,25 +71,19 @@ pub fn block_values(format: Format) -> usize
     }
 }
 
-// What a layer's format byte names.
-#[derive(Clone, Copy)]
-pub enum Named {
-    Known(FormatK),
-    Unknown,
-}
+impl TryFrom<u8> for FormatK {
+    type Error = Refusal;
 
-// 4 is Q4_K, 5 is Q5_K, 6 is Q6_K, and any other byte names no format.
-pub fn format_named(byte: u8) -> Named
-    ensures { result ≡ format_named byte }
-{
-    if byte == 4 {
-        return Named::Known(FormatK::Q4K);
+    // The format that a layer's format byte names: 4 is Q4_K, 5 is Q5_K, 6 is Q6_K. Refuses 12 for any other byte.
+    #[tactic(auto, unfolding(crate::specs::Formats::format_named))]
+    fn try_from(byte: u8) -> Result<FormatK, Refusal>
+        ensures { result ≡ format_named byte }
+    {
+        match byte {
+            4 => Ok(FormatK::Q4K),
+            5 => Ok(FormatK::Q5K),
+            6 => Ok(FormatK::Q6K),
+            _ => Err(Refusal::Unknown),
+        }
     }
-    if byte == 5 {
-        return Named::Known(FormatK::Q5K);
-    }
-    if byte == 6 {
-        return Named::Known(FormatK::Q6K);
-    }
-    Named::Unknown
 }

@@ -6,6 +6,7 @@ ghost use Rattle.layouts.specs.Of32.{values_iq4_nl, quant32};
 use crate::format::Format32;
 
 // n less k.
+#[tactic(auto, using(crate::proofs::Small::difference_fits, crate::proofs::Small::difference_is))]
 pub fn less(n: u8, k: u8) -> i8
     requires { (n < 64) × (k ≤ 64) }
     ensures { result ≡ pos n -ℤ pos k }
@@ -71,8 +72,8 @@ pub fn quants_q8_0(block: &[u8]) -> [i8; 32]
     ensures { result ≡ table (quant32 Format32.Q80 block.now) 32 }
 {
     let mut q = [0i8; 32];
-    for k in 0..32usize {
-        q[k] = numbers::signed_byte(block[2 + k]);
+    for (k, x) in q.iter_mut().enumerate() {
+        *x = numbers::signed_byte(block[2 + k]);
     }
     q
 }
@@ -83,6 +84,7 @@ const VALUES_IQ4_NL: [i8; 16] = [
 ];
 
 // The table, which a loop takes once: where it is named inside one, the compiler writes it to the stack at every turn.
+#[tactic(auto, unfolding(crate::specs::Of32::values_iq4_nl))]
 pub fn values_iq4_nl() -> [i8; 16]
     ensures { result ≡ values_iq4_nl }
 {

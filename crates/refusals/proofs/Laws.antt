@@ -1,29 +1,25 @@
--- Laws of a chain of checks, of what a refusal leaves, and of an answer that is known. Assumes nothing.
+-- Laws of a chain of checks, of what a refusal leaves, and of a refusal that `?` hands on. Assumes nothing.
 use Prim.{Unit}
 use Prim.Native.Nat.{ℕ}
 use mathlib.Core.Path.{◌≡◌, refl, sym, ap, ◌∙◌}
 use mathlib.Core.Bool.{Bool, true, false}
 use native.Mathlib.Omega.{arith}
-use lib.Ieee.{Float}
-use Rattle.refusals.specs.Said.{Said, value, refused, done, check_says, said_by, outcome_says}
-use Rattle.refusals.specs.declared.Refusal.{Refusal}
-use Rattle.refusals.specs.declared.Check.{Check}
-use Rattle.refusals.specs.declared.Check.TheVariants as check
-use Rattle.refusals.specs.declared.Answer.{Answer}
-use Rattle.refusals.specs.declared.Answer.TheVariants as answer
-use Rattle.refusals.specs.declared.Outcome.{Outcome}
-use Rattle.refusals.specs.declared.Outcome.TheVariants as outcome
+use Rattle.std.proofs.Common.{Ok, Err}
+use Rattle.std.specs.Result.{IsErrAnd}
+use Rattle.std.proofs.lemmas.Result.{err_from_is_err_and}
+use Rattle.refusals.specs.Said.{Said, done}
+use Rattle.refusals.specs.declared.refusal.Refusal.{Refusal}
 use Rattle.refusals.specs.Refusals.{given, or_else, carried_out}
 
 module _ {A : Type 0} where
   -- no refusal is a value
-  pub apart : (why : Refusal) (a : A) → refused why ≡ value a → ⊥
+  pub apart : (why : Refusal) (a : A) → Err why ≡ Ok a → ⊥
   apart why a e = let z : ◌≡◌ {A = ℕ} 0 1 = cc in absurd (omega arith)
 
   -- ---- a chain of checks
 
   -- a check that fails the call refuses
-  pub given_yes : (why : Refusal) (later : Said A) (fails : Bool) → fails ≡ true → given why fails later ≡ refused why
+  pub given_yes : (why : Refusal) (later : Said A) (fails : Bool) → fails ≡ true → given why fails later ≡ Err why
   unfolding given
   given_yes why later true e = refl
   given_yes why later false e = cc
@@ -35,69 +31,67 @@ module _ {A : Type 0} where
   given_no why later true e = cc
 
   -- a chain that says a value: its first check passed, and what comes later says it
-  pub given_passed : (why : Refusal) (later : Said A) (fails : Bool) (a : A) → given why fails later ≡ value a → (fails ≡ false) × (later ≡ value a)
+  pub given_passed : (why : Refusal) (later : Said A) (fails : Bool) (a : A) → given why fails later ≡ Ok a → (fails ≡ false) × (later ≡ Ok a)
   unfolding given
   given_passed why later true a e = absurd (apart why a e)
   given_passed why later false a e = (refl, e)
 
   -- ---- earlier checks and what comes later
 
-  pub else_first : (first : Said (Unit {0})) (later : Said A) (why : Refusal) → first ≡ refused why → or_else first later ≡ refused why
+  pub else_first : (first : Said (Unit {0})) (later : Said A) (why : Refusal) → first ≡ Err why → or_else first later ≡ Err why
   unfolding or_else
-  else_first (value a) later why e = cc
-  else_first (refused r) later why e = cc
+  else_first (Ok a) later why e = cc
+  else_first (Err r) later why e = cc
 
   pub else_later : (first : Said (Unit {0})) (later : Said A) → first ≡ done → or_else first later ≡ later
   unfolding or_else
-  else_later (value a) later e = refl
-  else_later (refused why) later e = cc
+  else_later (Ok a) later e = refl
+  else_later (Err why) later e = cc
 
-  pub else_passed : (first : Said (Unit {0})) (later : Said A) (a : A) → or_else first later ≡ value a → (first ≡ done) × (later ≡ value a)
+  pub else_passed : (first : Said (Unit {0})) (later : Said A) (a : A) → or_else first later ≡ Ok a → (first ≡ done) × (later ≡ Ok a)
   unfolding or_else
-  else_passed (value tt) later a e = (refl, e)
-  else_passed (refused why) later a e = absurd (apart why a e)
+  else_passed (Ok tt) later a e = (refl, e)
+  else_passed (Err why) later a e = absurd (apart why a e)
 
   -- ---- what lent memory holds
 
   module _ {M : Type 0} (said : Said A) (new old : M) where
-    pub carried_value : (a : A) → said ≡ value a → carried_out said new old ≡ (value a, new)
+    pub carried_value : (a : A) → said ≡ Ok a → carried_out said new old ≡ (Ok a, new)
     unfolding carried_out
     carried_value a e = ap (λ (s : Said A). carried_out s new old) e
 
-    pub carried_refused : (why : Refusal) → said ≡ refused why → carried_out said new old ≡ (refused why, old)
+    pub carried_refused : (why : Refusal) → said ≡ Err why → carried_out said new old ≡ (Err why, old)
     unfolding carried_out
     carried_refused why e = ap (λ (s : Said A). carried_out s new old) e
 
   -- what a call says is what its checks and its work gave
   pub carried_said : {M : Type 0} (said : Said A) (new old : M) → (carried_out said new old).0 ≡ said
   unfolding carried_out
-  carried_said (value a) new old = refl
-  carried_said (refused why) new old = refl
+  carried_said (Ok a) new old = refl
+  carried_said (Err why) new old = refl
 
--- what the checks say, by the check's answer
-pub check_passed : {k : Check} {said : Said (Unit {0})} → check_says k ≡ said → k ≡ check.Passed → said ≡ done
-check_passed h e = sym h ∙ ap check_says e
+  -- ---- a refusal that `?` hands on, and an answer past it
 
-pub check_refused : {k : Check} {said : Said (Unit {0})} {why : Refusal} → check_says k ≡ said → k ≡ check.Refused why → said ≡ refused why
-check_refused h e = sym h ∙ ap check_says e
+  -- what the exit of a `?` returns
+  pub handed_on : {r : Said A} {why : Refusal} → IsErrAnd r (λ again. again ≡ why) → r ≡ Err why
+  handed_on {r = r} h = let p = err_from_is_err_and r h in p.1 ∙ ap Err p.2
 
--- a call whose check refused says so and leaves all as it was; one whose check passed is done
-module _ {M : Type 0} {k : Check} {said : Said (Unit {0})} (new old : M) where
-  pub refused_out : {why : Refusal} → check_says k ≡ said → k ≡ check.Refused why → (refused why, old) ≡ carried_out said new old
-  refused_out {why = why} h e = sym (carried_refused said new old why (check_refused h e))
+  -- the first checks of a chain refused
+  pub first_handed_on : {r : Said A} {why : Refusal} {first : Said (Unit {0})} (later : Said A) → Err why ≡ first → IsErrAnd r (λ again. again ≡ why) → r ≡ or_else first later
+  first_handed_on later said h = handed_on h ∙ sym (else_first _ later _ (sym said))
 
-  pub done_out : check_says k ≡ said → k ≡ check.Passed → (done, new) ≡ carried_out said new old
-  done_out h e = sym (carried_value said new old _ (check_passed h e))
+  -- a call whose checks refused says so and leaves all as it was
+  pub refused_out : {M : Type 0} {r said : Said A} {why : Refusal} (new old : M) → Err why ≡ said → IsErrAnd r (λ again. again ≡ why) → (r, old) ≡ carried_out said new old
+  refused_out {said = said} {why = why} new old says h = ap (λ s. (s, old)) (handed_on h) ∙ sym (carried_refused said new old why (sym says))
 
--- ---- an answer that is known
+-- a check that gives something, which can be the unit alone, has passed
+pub check_passed : {said : Said (Unit {0})} {u : Unit {0}} → Ok u ≡ said → said ≡ done
+check_passed {u = tt} h = sym h
 
--- an outcome that says it is done is no refusal
-pub never_refused : (a : Outcome) (why : Refusal) → outcome_says a ≡ done → a ≡ outcome.Refused why → ⊥
-never_refused a why s e = apart why _ (sym (ap outcome_says e) ∙ s)
+-- a call whose checks passed is done
+pub done_out : {M : Type 0} {said : Said (Unit {0})} {u : Unit {0}} (new old : M) → Ok u ≡ said → (done, new) ≡ carried_out said new old
+done_out {said = said} {u = tt} new old h = sym (carried_value said new old _ (sym h))
 
--- an answer that says a value is that value, and no refusal
-pub value_of : (a : Answer) (u v : Float) → said_by a ≡ value v → a ≡ answer.Value u → u ≡ v
-value_of a u v s e = cc (sym (ap said_by e) ∙ s)
-
-pub no_refusal : (a : Answer) (why : Refusal) (v : Float) → said_by a ≡ value v → a ≡ answer.Refused why → ⊥
-no_refusal a why v s e = apart why v (sym (ap said_by e) ∙ s)
+-- an outcome that is done is no refusal
+pub never_refused : {A : Type 0} {said : Said A} {a : A} {why : Refusal} → said ≡ Ok a → Err why ≡ said → ⊥
+never_refused h e = apart _ _ (e ∙ h)

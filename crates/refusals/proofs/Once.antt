@@ -1,11 +1,28 @@
--- Uniqueness, said of a contract's own reading (the `Post` of a function's `Reads`): at the same arguments it holds of one answer alone. Assumes nothing.
-use Prim.{Unit}
+-- What tells two refusals and two answers apart; and uniqueness, said of a contract's own reading (the `Post` of a function's `Reads`): at the same arguments it holds of one answer alone. Assumes nothing.
+use Prim.Native.Nat.{ℕ}
 use mathlib.Core.Path.{◌≡◌, refl, sym, ap, ◌∙◌}
-use Rattle.refusals.specs.Said.{Said, said_by, outcome_says}
-use Rattle.refusals.specs.declared.Answer.{Answer}
-use Rattle.refusals.specs.declared.Answer.TheVariants as answer
-use Rattle.refusals.specs.declared.Outcome.{Outcome}
-use Rattle.refusals.specs.declared.Outcome.TheVariants as outcome
+use Rattle.std.specs.Prelude.{Bool, true, false, cond, eqb}
+use Rattle.std.proofs.Common.{Ok, Err}
+use Rattle.refusals.specs.declared.refusal.Refusal.{Refusal}
+use Rattle.refusals.specs.declared.refusal.Refusal.TheVariants.{
+  NotWholeBlocks,
+  NotAMultiple,
+  WeightsShort,
+  BlocksShort,
+  ReadingsShort,
+  RoomShort,
+  TooLarge,
+  WrongSums,
+  Outside,
+  AlreadyDone,
+  PieceOpen,
+  Malformed,
+  Unknown,
+  WarmUp,
+  WeightsLong,
+  WrongCount,
+}
+use Rattle.refusals.specs.Said.{Said, number, found_by, needed_by, counts_blocks}
 
 module _ {L : Type 0} {A R S : L → Type 0} where
   -- any two results that meet the contract P at the same arguments are the same
@@ -24,20 +41,66 @@ same h k = h ∙ sym k
 pub both : {A B : Type 0} {x y : A} {s t : B} {q : A × B} → (x, s) ≡ q → (y, t) ≡ q → (x ≡ y) × (s ≡ t)
 both {A = A} {B = B} h k = let e = same h k in (ap (λ (p : A × B). p.0) e, ap (λ (p : A × B). p.1) e)
 
--- `said_by` tells any two answers apart
-pub one_answer : (x y : Answer) → said_by x ≡ said_by y → x ≡ y
-one_answer (answer.Value v) (answer.Value w) e = cc
-one_answer (answer.Value v) (answer.Refused why) e = cc
-one_answer (answer.Refused why) (answer.Value v) e = cc
-one_answer (answer.Refused why) (answer.Refused other) e = cc
+-- ---- what tells refusals and answers apart
 
--- and so does `outcome_says`
-pub one_outcome : (x y : Outcome) → outcome_says x ≡ outcome_says y → x ≡ y
-one_outcome outcome.Done outcome.Done e = refl
-one_outcome outcome.Done (outcome.Refused why) e = cc
-one_outcome (outcome.Refused why) outcome.Done e = cc
-one_outcome (outcome.Refused why) (outcome.Refused other) e = cc
+-- the refusal of a number that counts no blocks
+of_number : ℕ → Refusal
+of_number num =
+    cond (eqb num 1) NotWholeBlocks
+    (cond (eqb num 2) NotAMultiple
+    (cond (eqb num 3) WeightsShort
+    (cond (eqb num 4) ReadingsShort
+    (cond (eqb num 5) RoomShort
+    (cond (eqb num 6) TooLarge
+    (cond (eqb num 7) WrongSums
+    (cond (eqb num 8) Outside
+    (cond (eqb num 9) AlreadyDone
+    (cond (eqb num 10) PieceOpen
+    (cond (eqb num 11) Malformed
+    (cond (eqb num 12) Unknown
+    (cond (eqb num 13) WarmUp
+    (cond (eqb num 14) WeightsLong WrongCount)))))))))))))
 
--- a call that fills lent memory: what it says and what it leaves, both
-pub one_filled : {M : Type 0} (x y : Outcome) {m n : M} {z : Said (Unit {0}) × M} → (outcome_says x, m) ≡ z → (outcome_says y, n) ≡ z → (x ≡ y) × (m ≡ n)
-one_filled x y h k = let e = both h k in (one_outcome x y e.0, e.1)
+-- the refusal of what is said of it
+of_all : ℕ → Bool → ℕ → ℕ → Refusal
+of_all num true found needed = BlocksShort found needed
+of_all num false found needed = of_number num
+
+again : (why : Refusal) → of_all (number why) (counts_blocks why) (found_by why) (needed_by why) ≡ why
+unfolding of_all of_number
+again NotWholeBlocks = refl
+again NotAMultiple = refl
+again WeightsShort = refl
+again (BlocksShort found needed) = refl
+again ReadingsShort = refl
+again RoomShort = refl
+again TooLarge = refl
+again WrongSums = refl
+again Outside = refl
+again AlreadyDone = refl
+again PieceOpen = refl
+again Malformed = refl
+again Unknown = refl
+again WarmUp = refl
+again WeightsLong = refl
+again WrongCount = refl
+
+-- two refusals of one number that count the same blocks, or none, are one
+pub record SameRefusal (x y : Refusal) : Type 0 where
+  pub same_number : number x ≡ number y
+  pub same_counting : counts_blocks x ≡ counts_blocks y
+  pub same_found : found_by x ≡ found_by y
+  pub same_needed : needed_by x ≡ needed_by y
+
+pub one_refusal : (x y : Refusal) → SameRefusal x y → x ≡ y
+one_refusal x y e = sym (again x) ∙ rw (e.same_number, e.same_counting, e.same_found, e.same_needed) (again y)
+
+-- two answers say the same: they give the same, or refuse for the same reason
+pub data SaySame {A : Type 0} : Said A → Said A → Type 0 where
+  give : (a : A) → SaySame (Ok a) (Ok a)
+  refuse : {x y : Refusal} → SameRefusal x y → SaySame (Err x) (Err y)
+
+-- they are one then
+pub one_answer : {A : Type 0} (x y : Said A) → SaySame x y → x ≡ y
+one_answer x y (give a) = refl
+one_answer x y (refuse e) = ap Err (one_refusal _ _ e)

@@ -1,47 +1,74 @@
--- What a call says, in document 01's terms, for every case of the code's enums. Definitions only.
+-- What a call says, in document 01's terms: what it gives, or why it refuses, and the number of each refusal. Definitions
+-- only.
 use Prim.{Unit, tt}
-use Rattle.std.specs.Prelude.{ℕ, Float}
-use Rattle.refusals.specs.declared.Refusal.{Refusal}
-use Rattle.refusals.specs.declared.Check.{Check}
-use Rattle.refusals.specs.declared.Check.TheVariants as check
-use Rattle.refusals.specs.declared.Answer.{Answer}
-use Rattle.refusals.specs.declared.Answer.TheVariants as answer
-use Rattle.refusals.specs.declared.Outcome.{Outcome}
-use Rattle.refusals.specs.declared.Outcome.TheVariants as outcome
+use Rattle.std.specs.Prelude.{ℕ, Bool, true, false, Result, Ok, Err}
+use Rattle.refusals.specs.declared.refusal.Refusal.{Refusal}
+use Rattle.refusals.specs.declared.refusal.Refusal.TheVariants.{
+  NotWholeBlocks,
+  NotAMultiple,
+  WeightsShort,
+  BlocksShort,
+  ReadingsShort,
+  RoomShort,
+  TooLarge,
+  WrongSums,
+  Outside,
+  AlreadyDone,
+  PieceOpen,
+  Malformed,
+  Unknown,
+  WarmUp,
+  WeightsLong,
+  WrongCount,
+}
 
 -- what a call gives where it does not refuse, or why it refuses
-pub data Said (A : Type 0) : Type 0 where
-  value : A → Said A
-  refused : Refusal → Said A
-
--- the refusal with document 01's number, which counts no blocks
-abbrev pub no : ℕ → Refusal
-no num = record { number = num; found = 0; needed = 0 }
-
--- fewer packed weights than needed (3): so many whole blocks were found, and so many are needed
-abbrev pub blocks_short : (found needed : ℕ) → Refusal
-blocks_short found needed = record { number = 3; found = found; needed = needed }
+abbrev pub Said : Type 0 → Type 0
+Said A = Result A Refusal
 
 -- the work is done; and of a check, nothing is refused
 abbrev pub done : Said (Unit {0})
-done = value tt
+done = Ok tt
 
--- what each answer of a check says
-abbrev pub check_says : Check → Said (Unit {0})
-check_says check.Passed = done
-check_says (check.Refused why) = refused why
+-- what a call that gives nothing says of what another says: a refusal is passed on
+abbrev pub passed_on : {A : Type 0} → Said A → Said (Unit {0})
+passed_on (Ok a) = done
+passed_on (Err why) = Err why
 
--- what each answer of a dot or a sum says
-abbrev pub said_by : Answer → Said Float
-said_by (answer.Value v) = value v
-said_by (answer.Refused why) = refused why
+-- fewer packed weights than needed (3): so many whole blocks were found, and so many are needed
+abbrev pub blocks_short : (found needed : ℕ) → Refusal
+blocks_short found needed = BlocksShort found needed
 
--- what each answer of a call that fills lent memory says
-abbrev pub outcome_says : Outcome → Said (Unit {0})
-outcome_says outcome.Done = done
-outcome_says (outcome.Refused why) = refused why
+-- the number that document 01 gives a refusal, and document 02 the last two
+abbrev pub number : Refusal → ℕ
+number NotWholeBlocks = 1
+number NotAMultiple = 2
+number WeightsShort = 3
+number (BlocksShort found needed) = 3
+number ReadingsShort = 4
+number RoomShort = 5
+number TooLarge = 6
+number WrongSums = 7
+number Outside = 8
+number AlreadyDone = 9
+number PieceOpen = 10
+number Malformed = 11
+number Unknown = 12
+number WarmUp = 13
+number WeightsLong = 14
+number WrongCount = 15
 
--- what a layer says of what a row dot says: a refusal is passed on
-abbrev pub passed_on : Said Float → Said (Unit {0})
-passed_on (value v) = done
-passed_on (refused why) = refused why
+-- the whole blocks that were found, where a refusal counts them, and otherwise 0 ..
+abbrev pub found_by : Refusal → ℕ
+found_by (BlocksShort found needed) = found
+found_by why = 0
+
+-- .. and that are needed
+abbrev pub needed_by : Refusal → ℕ
+needed_by (BlocksShort found needed) = needed
+needed_by why = 0
+
+-- whether a refusal counts blocks: of the two with the number 3 that of packed weights
+abbrev pub counts_blocks : Refusal → Bool
+counts_blocks (BlocksShort found needed) = true
+counts_blocks why = false

@@ -19,11 +19,10 @@ less-requires-in-loop-k c = omega (arith, c.type_inv.block (2 + c.loop-k.k))
 
 pub loop-k-preserved : goal.loop-k-preserved
 loop-k-preserved c =
-    let m = c in
-    let bs = m.args.block.now in
-    let k = m.loop-k.k in
-    pairs_more 16 (λ i. i / 2) (quant32 Q40 bs) (pos 0) m.loop-k.q k _ _ (omega arith) (byte_read_lem c.less.type_inv c.less.ensures (q40_at bs (2 * k) _ (beside_low bs 2 k))) (byte_read_lem c.less-in-loop-k.type_inv c.less-in-loop-k.ensures (q40_at bs (2 * k + 1) _ (beside_high bs 2 k))) (λ a b i h. own_neighbours k a b i)
-    m.loop-k.invariant
+    let bs = c.args.block.now in
+    let k = c.loop-k.k in
+    pairs_more 16 (λ i. i / 2) (quant32 Q40 bs) (pos 0) c.loop-k.q k _ _ (omega arith) (byte_read_lem c.less.type_inv c.less.ensures (q40_at bs (2 * k) _ (beside_low bs 2 k))) (byte_read_lem c.less-in-loop-k.type_inv c.less-in-loop-k.ensures (q40_at bs (2 * k + 1) _ (beside_high bs 2 k))) (λ a b i h. own_neighbours k a b i)
+    c.loop-k.invariant
 
 pub returns : goal.returns
 returns c =

@@ -19,12 +19,11 @@ less-requires-in-loop-k c = omega (arith, c.type_inv.block (2 + c.loop-k.k))
 
 pub loop-k-preserved : goal.loop-k-preserved
 loop-k-preserved c =
-    let m = c in
-    let bs = m.args.block.now in
-    let k = m.loop-k.k in
+    let bs = c.args.block.now in
+    let k = c.loop-k.k in
     let h : k < 16 = omega (arith, c.loop-k-test.true) in
-    pairs_more 16 (λ i. i % 16) (quant32 Q40Ggml bs) (pos 0) m.loop-k.q k _ _ h (byte_read_lem c.less.type_inv c.less.ensures (q40_ggml_at bs k _ (apart_low bs 2 k h)))
-    (byte_read_lem c.less-in-loop-k.type_inv c.less-in-loop-k.ensures (q40_ggml_at bs (k + 16) _ (apart_high bs 2 k h))) (own_halves 16 k) m.loop-k.invariant
+    pairs_more 16 (λ i. i % 16) (quant32 Q40Ggml bs) (pos 0) c.loop-k.q k _ _ h (byte_read_lem c.less.type_inv c.less.ensures (q40_ggml_at bs k _ (apart_low bs 2 k h)))
+    (byte_read_lem c.less-in-loop-k.type_inv c.less-in-loop-k.ensures (q40_ggml_at bs (k + 16) _ (apart_high bs 2 k h))) (own_halves 16 k) c.loop-k.invariant
 
 pub returns : goal.returns
 returns c =

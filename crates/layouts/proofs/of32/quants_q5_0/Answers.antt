@@ -20,14 +20,13 @@ with_high_bit-requires-in-loop-k c = omega (arith, c.type_inv.block (6 + c.loop-
 
 pub loop-k-preserved : goal.loop-k-preserved
 loop-k-preserved c =
-    let m = c in
-    let bs = m.args.block.now in
-    let k = m.loop-k.k in
+    let bs = c.args.block.now in
+    let k = c.loop-k.k in
     let h : k < 16 = c.loop-k-test.true in
-    let e : m.le_u32-high.result ≡ le32 bs 2 = m.le_u32-high.ensures in
-    pairs_more 16 (λ i. i % 16) (quant32 Q50 bs) (pos 0) m.loop-k.q k _ _ h
+    let e : c.le_u32-high.result ≡ le32 bs 2 = c.le_u32-high.ensures in
+    pairs_more 16 (λ i. i % 16) (quant32 Q50 bs) (pos 0) c.loop-k.q k _ _ h
     (byte_read_lem c.with_high_bit.type_inv (rw e at c.with_high_bit.ensures) (q50_at bs k _ (apart_low bs 6 k h)))
-    (byte_read_lem c.with_high_bit-in-loop-k.type_inv (rw e at c.with_high_bit-in-loop-k.ensures) (q50_at bs (k + 16) _ (apart_high bs 6 k h))) (own_halves 16 k) m.loop-k.invariant
+    (byte_read_lem c.with_high_bit-in-loop-k.type_inv (rw e at c.with_high_bit-in-loop-k.ensures) (q50_at bs (k + 16) _ (apart_high bs 6 k h))) (own_halves 16 k) c.loop-k.invariant
 
 pub returns : goal.returns
 returns c =

@@ -16,9 +16,9 @@ pub loop-k-preserved : goal.loop-k-preserved
 unfolding quant32
 loop-k-preserved c =
     let l = c.loop-k in
-    filling_more (quant32 Q80 c.args.block.now) (replicate 32 (pos 0)) 32 l.q l.k _ refl l.invariant c.loop-k-test.true (read_is w8 _ c.signed_byte.type_inv ∙ c.signed_byte.ensures)
+    filling_more (quant32 Q80 c.args.block.now) (replicate 32 (pos 0)) 32 l.x-items l.k _ refl l.invariant c.loop-k-test.true (read_is w8 _ c.signed_byte.type_inv ∙ c.signed_byte.ensures)
 
 pub returns : goal.returns
 returns c =
     let l = c.loop-k in
-    filling_done (quant32 Q80 c.args.block.now) (replicate 32 (pos 0)) 32 l.q l.k refl l.invariant c.loop-k-test.false
+    filling_done (quant32 Q80 c.args.block.now) (replicate 32 (pos 0)) 32 l.x-items l.k refl l.invariant c.loop-k-test.false
