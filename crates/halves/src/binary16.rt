@@ -21,7 +21,7 @@ fn subnormal(sign: u32, mant: u32) -> f32
     requires { (sign < 2) × (0 < mant) × (mant < 1024) }
     ensures { result ≡ round binary32 (eqb sign 1) mant (2 ^ 24) }
 {
-    let up = u32::leading_zeros(mant) - 21;
+    let up = mant.leading_zeros() - 21;
     normal(sign, 113 - up, mant << up)
 }
 

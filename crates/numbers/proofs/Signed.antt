@@ -1,10 +1,10 @@
 -- Signed numbers in the machine's bits. Assumes nothing.
-use Rattle.std.proofs.Common.{◌≡◌, ℕ, zero, suc, ◌-◌, ◌^◌, ◌<◌, ◌≤◌, Bool, true, false, cond, ltb, ℤ, pos, negsuc, ◌-ℤ◌, sym, refl, ap, ◌∙◌, zero-add, arith, w8, to_z, of_z, le-ltb}
+use Rattle.std.proofs.Common.{◌≡◌, ℕ, suc, ◌-◌, ◌^◌, ◌<◌, Bool, true, false, cond, ltb, ℤ, pos, negsuc, sym, refl, ap, ◌∙◌, arith, w8, to_z, of_z}
 use lib.Signed.{mag}
 use mir.Syntax.{Width}
 use mir.Val.{hbits, sel}
 use mir.ValLaws.{to_z-of_z}
-use Rattle.numbers.specs.Fields.{signed}
+use Rattle.numbers.specs.Fields.{signed, byte_of}
 
 -- a number that a signed width holds is read back from its bits
 pub read_is : (w : Width) (z : ℤ) → mag z < 2 ^ hbits w → to_z w (of_z w z) ≡ z
@@ -25,10 +25,7 @@ signed_is b = by (ltb b 128)
     by true = refl
     by false = ap negsuc (omega arith)
 
-pub signed_high : (b : ℕ) → 128 ≤ b → signed b ≡ negsuc (255 - b)
-signed_high b h = rw (le-ltb b 128 h)
-
--- m taken off -1
-pub below_zero : (m : ℕ) → negsuc 0 -ℤ pos m ≡ negsuc m
-below_zero zero = refl
-below_zero (suc m) = ap (λ (n : ℕ). negsuc (suc n)) (zero-add m)
+-- a signed number's byte is the bits in which the machine has it
+pub byte_is : (z : ℤ) → mag z < 128 → of_z w8 z ≡ byte_of z
+byte_is (pos n) h = refl
+byte_is (negsuc n) h = omega arith

@@ -6,14 +6,14 @@ ghost use Rattle.numbers.specs.Fields.{le16, le32, signed, byte_of};
 pub fn le_u16(b0: u8, b1: u8) -> u16
     ensures { result ≡ b0 + 256 * b1 }
 {
-    b0 as u16 + 256 * b1 as u16
+    u16::from_le_bytes([b0, b1])
 }
 
 // The little-endian number of four bytes.
 pub fn le_u32(b0: u8, b1: u8, b2: u8, b3: u8) -> u32
     ensures { result ≡ (b0 + 256 * b1) + 65536 * (b2 + 256 * b3) }
 {
-    le_u16(b0, b1) as u32 + 65536 * le_u16(b2, b3) as u32
+    u32::from_le_bytes([b0, b1, b2, b3])
 }
 
 // The two bytes at i, as a size.
@@ -41,23 +41,17 @@ pub fn u32_at(s: &[u8], i: usize) -> usize
 }
 
 // A byte as a signed number, in two's complement.
+#[tactic(auto, using(crate::proofs::Signed::signed_is))]
 pub fn signed_byte(b: u8) -> i8
     ensures { result ≡ signed b }
 {
-    if b < 128 {
-        b as i8
-    } else {
-        -1 - ((255 - b) as i8)
-    }
+    b.cast_signed()
 }
 
 // A signed number as a byte, in two's complement.
+#[tactic(auto, using(crate::proofs::Signed::byte_is))]
 pub fn unsigned_byte(z: i8) -> u8
     ensures { result ≡ byte_of z }
 {
-    if z >= 0 {
-        z as u8
-    } else {
-        255 - ((-1 - z) as u8)
-    }
+    z.cast_unsigned()
 }

@@ -1,7 +1,7 @@
 // The two ends of readings: the largest above 0 and the least below it. They are the same in any order of the readings.
 ghost use Rattle.std.specs.Prelude.{◌≡◌, true, false, cond, length};
 ghost use Rattle.std.specs.Float.Ieee.{lt};
-ghost use Rattle.readings.specs.Inner.{furthest, end_of, furthest_of_8};
+ghost use Rattle.readings.specs.Inner.{further, furthest, end_of, furthest_of_8};
 
 // The larger of the two; a where b is a NaN.
 pub(crate) fn larger_of(a: f32, b: f32) -> f32
@@ -17,30 +17,31 @@ pub(crate) fn smaller_of(a: f32, b: f32) -> f32
     if b < a { b } else { a }
 }
 
+// Of the two the one that is further, up or DOWN; a where b is a NaN.
+fn further<const DOWN: bool>(a: f32, b: f32) -> f32
+    ensures { result ≡ further DOWN a b }
+{
+    if DOWN {
+        smaller_of(a, b)
+    } else {
+        larger_of(a, b)
+    }
+}
+
 // The largest reading above 0 and the least below it, each +0.0 where there is none. A NaN is neither.
-#[derive(Drop)]
+#[derive(Clone, Copy)]
 pub(crate) struct Ends {
     pub(crate) high: f32,
     pub(crate) low: f32,
 }
 
-// The largest of eight lanes. They meet in a tree, where few comparisons wait for another.
-fn high_of_8(h: &[f32; 8]) -> f32
-    ensures { result ≡ furthest_of_8 false h.now }
+// The furthest of eight lanes, up or DOWN. They meet in a tree, where few comparisons wait for another.
+fn furthest_of_8<const DOWN: bool>(h: &[f32; 8]) -> f32
+    ensures { result ≡ furthest_of_8 DOWN h.now }
 {
-    larger_of(
-        larger_of(larger_of(h[0], h[4]), larger_of(h[2], h[6])),
-        larger_of(larger_of(h[1], h[5]), larger_of(h[3], h[7])),
-    )
-}
-
-// The least of eight lanes.
-fn low_of_8(h: &[f32; 8]) -> f32
-    ensures { result ≡ furthest_of_8 true h.now }
-{
-    smaller_of(
-        smaller_of(smaller_of(h[0], h[4]), smaller_of(h[2], h[6])),
-        smaller_of(smaller_of(h[1], h[5]), smaller_of(h[3], h[7])),
+    further::<DOWN>(
+        further::<DOWN>(further::<DOWN>(h[0], h[4]), further::<DOWN>(h[2], h[6])),
+        further::<DOWN>(further::<DOWN>(h[1], h[5]), further::<DOWN>(h[3], h[7])),
     )
 }
 
@@ -51,8 +52,7 @@ fn ends_with(e: Ends, x: &[f32]) -> Ends
 {
     let mut high = e.high;
     let mut low = e.low;
-    for i in 0..x.len() {
-        let v = x[i];
+    for &v in x {
         high = larger_of(high, v);
         low = smaller_of(low, v);
     }
@@ -63,21 +63,19 @@ fn ends_with(e: Ends, x: &[f32]) -> Ends
 pub(crate) fn ends_of(x: &[f32]) -> Ends
     ensures { (result.high ≡ end_of false x.now) × (result.low ≡ end_of true x.now) }
 {
-    let whole = x.len() / 8 * 8;
+    let turns = x.len() / 8;
     let mut high = [0.0f32; 8];
     let mut low = [0.0f32; 8];
-    let mut i: usize = 0;
-    while i < whole {
+    for t in 0..turns {
         for j in 0..8usize {
-            let v = x[i + j];
+            let v = x[8 * t + j];
             high[j] = larger_of(high[j], v);
             low[j] = smaller_of(low[j], v);
         }
-        i += 8;
     }
     let e = Ends {
-        high: high_of_8(&high),
-        low: low_of_8(&low),
+        high: furthest_of_8::<false>(&high),
+        low: furthest_of_8::<true>(&low),
     };
-    ends_with(e, &x[whole..])
+    ends_with(e, &x[8 * turns..])
 }

@@ -36,8 +36,7 @@ fn first_of(x: &[f32], most: f32) -> f32
     requires { most ≡ largest x.now (length x.now) }
     ensures { result ≡ largest_value x.now (length x.now) }
 {
-    for i in 0..x.len() {
-        let v = x[i];
+    for &v in x {
         if reaches(v, most) {
             return v;
         }

@@ -36,17 +36,15 @@ returns-then-mant-eq0-2 c =
 
 pub returns-then-exp-eq0 : goal.returns-then-exp-eq0
 returns-then-exp-eq0 c =
-    let d = c in
-    let h = d.args.half in
+    let h = c.args.half in
     c.subnormal.ensures
     ∙ ap (λ (s : Bool). round binary32 s (digits h) (2 ^ 24)) (sign_bit h (omega arith))
-    ∙ sym (at_finite h 0 d.if-exp-eq0.true d.if-exp-eq31.false)
+    ∙ sym (at_finite h 0 c.if-exp-eq0.true c.if-exp-eq31.false)
 
 pub returns : goal.returns
 returns c =
-    let d = c in
-    let h = d.args.half in
+    let h = c.args.half in
     c.normal.ensures
     ∙ ap (λ (s : Bool). round binary32 s ((digits h + 1024) * 2 ^ (exponent h + 112)) (2 ^ 137)) (sign_bit h (omega arith))
-    ∙ normal (negative h) (digits h) (exponent h) (pos_of (exponent h) d.if-exp-eq0.false)
-    ∙ sym (at_finite h (exponent h) refl d.if-exp-eq31.false)
+    ∙ normal (negative h) (digits h) (exponent h) (pos_of (exponent h) c.if-exp-eq0.false)
+    ∙ sym (at_finite h (exponent h) refl c.if-exp-eq31.false)

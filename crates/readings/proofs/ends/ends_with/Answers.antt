@@ -1,4 +1,4 @@
--- `readings::ends_with` meets its contract: after i readings the loop holds the ends of the first i. Assumes nothing.
+-- `readings::ends_with` meets its contract: after some readings the loop holds the ends of those. Assumes nothing.
 use mathlib.Core.Path.{◌≡◌, refl, ◌∙◌}
 use mathlib.Core.Bool.{Bool, true, false}
 use mathlib.Core.List.{List}
@@ -14,22 +14,19 @@ one_more : (s : Bool) (x : List Float) (i : ℕ) (a : Float) {b : Float} → b �
 unfolding furthest
 one_more s x i a e = rw (e, add-one)
 
-pub loop-i-init : goal.loop-i-init
+pub loop-v-init : goal.loop-v-init
 unfolding furthest
-loop-i-init c = (omega arith, refl, refl, refl)
+loop-v-init c = (refl, refl)
 
-pub loop-i-preserved : goal.loop-i-preserved
-loop-i-preserved c =
-    let head = c in
-    let x = head.args.x.now in (
-      omega arith,
-      omega arith,
-      c.larger_of-high.ensures ∙ one_more false x head.loop-i.i head.args.e.high head.loop-i.invariant.2,
-      c.smaller_of-low.ensures ∙ one_more true x head.loop-i.i head.args.e.low head.loop-i.invariant.3,
+pub loop-v-preserved : goal.loop-v-preserved
+loop-v-preserved c =
+    let x = c.args.x.now in
+    let l = c.loop-v in (
+      c.larger_of-high.ensures ∙ one_more false x l.v-index c.args.e.high l.invariant.0,
+      c.smaller_of-low.ensures ∙ one_more true x l.v-index c.args.e.low l.invariant.1,
     )
 
 pub returns : goal.returns
 returns c =
-    let x = c.args.x.now in
-    let e : c.loop-i.i ≡ length x = omega arith in
-    (rw e at c.loop-i.invariant.2, rw e at c.loop-i.invariant.3)
+    let e : c.loop-v.v-index ≡ length c.args.x.now = omega arith in
+    (rw e at c.loop-v.invariant.0, rw e at c.loop-v.invariant.1)

@@ -5,5 +5,4 @@ use Rattle.readings.proofs.magnitudes.largest_magnitude.Goals as goal
 
 pub returns : goal.returns
 returns c =
-    let e = c in
-    c.larger_of.ensures ∙ simp (e.ends_of-e.ensures.0, e.ends_of-e.ensures.1) (larger_end e.args.x.now e.type_inv.x)
+    c.larger_of.ensures ∙ simp (c.ends_of-e.ensures.0, c.ends_of-e.ensures.1) (larger_end c.args.x.now c.type_inv.x)

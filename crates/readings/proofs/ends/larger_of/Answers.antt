@@ -1,8 +1,0 @@
--- `readings::larger_of` meets its contract. Assumes nothing.
-use Rattle.readings.proofs.ends.larger_of.Goals as goal
-
-pub returns-then-a-b : goal.returns-then-a-b
-returns-then-a-b c = rw c.if-a-b.true
-
-pub returns-else-a-b : goal.returns-else-a-b
-returns-else-a-b c = rw c.if-a-b.false
