@@ -1,5 +1,5 @@
 // A row that may start or end inside a block, and a row of whole blocks.
-ghost use Rattle.std.specs.Prelude.{◌≡◌, ◌+◌, ◌^◌, ◌≤◌, ◌<◌, min, length};
+ghost use Rattle.std.specs.Prelude.{◌≡◌, ◌+◌, ◌^◌, ◌≤◌, ◌<◌, length};
 ghost use Rattle.memory.specs.Lists.{table};
 ghost use Rattle.layouts.specs.Formats.{block_bytes, block_values};
 ghost use Rattle.layouts.specs.Weights.{value_in, weight_at, values_of};
@@ -16,19 +16,14 @@ fn decode_within(format: Format, block: &[u8], from: usize, out: &mut [f32])
     let values = layouts::block_values(format);
     let mut whole = [0.0f32; 256];
     decode_blocks(format, block, &mut whole[..values]);
-    for i in 0..out.len() {
-        out[i] = whole[from + i];
+    for (i, value) in out.iter_mut().enumerate() {
+        *value = whole[from + i];
     }
-}
-
-fn smaller(a: usize, b: usize) -> usize
-    ensures { result ≡ min a b }
-{
-    if a < b { a } else { b }
 }
 
 // The weights from place `from` on, as many as there is room for, a block at a time: a row may start or end inside a
 // block.
+#[tactic(auto, using(layouts::proofs::Sizes::sizes, crate::proofs::Turns::block_within, crate::proofs::Turns::some_taken))]
 fn decode_parts(format: Format, w: &[u8], from: usize, out: &mut [f32])
     requires { (from + length out.old ≤ values_of format (length w.now)) × (from + length out.old < 2 ^ 63) }
     ensures { out.new
@@ -41,7 +36,7 @@ fn decode_parts(format: Format, w: &[u8], from: usize, out: &mut [f32])
     while at < n {
         let b = (from + at) / values;
         let inside = (from + at) % values;
-        let end = at + smaller(values - inside, n - at);
+        let end = at + (values - inside).min(n - at);
         let start = b * size;
         let stop = start + size;
         decode_within(format, &w[start..stop], inside, &mut out[at..end]);
@@ -50,6 +45,7 @@ fn decode_parts(format: Format, w: &[u8], from: usize, out: &mut [f32])
 }
 
 // The same, but a row of whole blocks is decoded at once.
+#[tactic(auto, using(layouts::proofs::Sizes::sizes, crate::proofs::WholeRows::row_fits))]
 pub fn decode_row(format: Format, w: &[u8], from: usize, out: &mut [f32])
     requires { (from + length out.old ≤ values_of format (length w.now)) × (from + length out.old < 2 ^ 63) }
     ensures { out.new

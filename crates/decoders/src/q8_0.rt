@@ -14,13 +14,11 @@ pub(crate) fn decode_q8_0_blocks(bytes: &[u8], out: &mut [f32])
         (values_of (Format.Of32 Format32.Q80) (length bytes.now)) }
 {
     let count = bytes.len() / 34;
-    let mut b: usize = 0;
-    while b < count {
+    for b in 0..count {
         let from = b * 34;
         let to = from + 34;
         let at = b * 32;
         let end = at + 32;
         decode_q8_0(&bytes[from..to], &mut out[at..end]);
-        b += 1;
     }
 }

@@ -8,8 +8,9 @@ use lib.Ieee.{Float, binary32, add, of_bits}
 use lib.ListN.{length, get_or, take, drop}
 use lib.Seq.{take_at, ext_get_or}
 use borrow.Author.Tests.{ltb-false, eqb-true, not-false, le-ltb, eq-eqb}
-use Rattle.refusals.specs.Said.{Said, value, done}
+use Rattle.refusals.specs.Said.{Said, done}
 use Rattle.refusals.proofs.Laws.{given_no, given_passed, else_later, else_passed, carried_value, carried_said}
+use Rattle.std.proofs.Common.{Ok}
 use Rattle.memory.specs.Lists.{table, filled, part}
 use Rattle.memory.proofs.Filled.{length_table, get_or_table, part_at, part_length}
 use Rattle.numbers.specs.Fields.{byte_of}
@@ -169,11 +170,11 @@ same_lost d xs (suc n) =
 
 -- a quantizer whose checks pass packs
 packs : (t : Target) (xs : List Float) (room : List ℕ) → bytes32 (format_of t) ≡ 18 → quantize_refusal t (length xs) (length room) ≡ done
-    → quantize_says t xs room ≡ (value (lost_by t xs), packed t xs ++ drop (length xs / 32 * 18) room)
+    → quantize_says t xs room ≡ (Ok (lost_by t xs), packed t xs ++ drop (length xs / 32 * 18) room)
 unfolding quantize_says
 packs t xs room Z passed =
-    carried_value _ (filled (packed_at t xs) room (bytes_for t (length xs))) room _ (else_later _ (value (lost_by t xs)) passed)
-    ∙ ap (λ (k : ℕ). (value (lost_by t xs), filled (packed_at t xs) room (length xs / 32 * k))) Z
+    carried_value _ (filled (packed_at t xs) room (bytes_for t (length xs))) room _ (else_later _ (Ok (lost_by t xs)) passed)
+    ∙ ap (λ (k : ℕ). (Ok (lost_by t xs), filled (packed_at t xs) room (length xs / 32 * k))) Z
 
 -- what its checks look at
 checked : (t : Target) (n room : ℕ) → bytes32 (format_of t) ≡ 18 → quantize_refusal t n room ≡ done → (n ≤ 131072) × (n % 32 ≡ 0) × (n / 32 * 18 ≤ room)
@@ -198,19 +199,19 @@ converts_them n room large h =
     given_no _ _ _ (le-ltb _ _ few) ∙ given_no _ _ _ (ap not (eq-eqb _ _ whole)) ∙ given_no _ _ _ (le-ltb _ _ h)
 
 -- (c) a quantizer that is done, and a converter over what it wrote: into any room the converter leaves what the quantizer of the other order leaves there, and that one's scales lose the same
-pub quantizes_alike : (d : Direction) (xs : List Float) (out left room : List ℕ) (l : Lost) → quantize_says (target_read d) xs out ≡ (value l, left) → length xs / 32 * 18 ≤ length room
+pub quantizes_alike : (d : Direction) (xs : List Float) (out left room : List ℕ) (l : Lost) → quantize_says (target_read d) xs out ≡ (Ok l, left) → length xs / 32 * 18 ≤ length room
     → (let then = packed (target_written d) xs ++ drop (length xs / 32 * 18) room in
-    (convert_says d (take (length xs / 32 * 18) left) room ≡ (done, then)) × (quantize_says (target_written d) xs room ≡ (value l, then)))
+    (convert_says d (take (length xs / 32 * 18) left) room ≡ (done, then)) × (quantize_says (target_written d) xs room ≡ (Ok l, then)))
 unfolding quantize_says
 quantizes_alike d xs out left room l e h =
     let n = length xs / 32 * 18 in
     let from = packed (target_read d) xs in
-    let said = else_passed _ (value (lost_by (target_read d) xs)) l (sym (carried_said _ _ _) ∙ ap (λ (p : Said Lost × List ℕ). p.0) e) in
+    let said = else_passed _ (Ok (lost_by (target_read d) xs)) l (sym (carried_said _ _ _) ∙ ap (λ (p : Said Lost × List ℕ). p.0) e) in
     let known = checked (target_read d) (length xs) (length out) (size_read d) said.0 in
     let size : length from ≡ n = length_table (packed_at (target_read d) xs) n in
     let wrote : left ≡ from ++ drop n out = ap (λ (p : Said Lost × List ℕ). p.1) (sym e ∙ packs (target_read d) xs out (size_read d) said.0) in
     let read : take n left ≡ from = ap (take n) wrote ∙ take_at from (drop n out) n size in
-    let lost : value (lost_by (target_written d) xs) ≡ value l = ap value (sym (same_lost d xs (length xs / 32))) ∙ said.1 in (
+    let lost : Ok (lost_by (target_written d) xs) ≡ Ok l = ap Ok (sym (same_lost d xs (length xs / 32))) ∙ said.1 in (
       ap (λ (bs : List ℕ). convert_says d bs room) read
           ∙ converts d from room (ap (λ (k : ℕ). convert_refusal k (length room)) size ∙ converts_them (length xs) (length room) known.0 h)
           ∙ ap (λ (k : ℕ). (done, converted d from ++ drop k room)) size

@@ -1,14 +1,11 @@
 -- What the blocks' scales lost when they were stored in binary16. Definitions only.
 use Rattle.std.specs.Prelude.{ℕ, zero, suc, ◌+◌, ◌*◌, ◌/◌, List, length, Float}
-use Rattle.refusals.specs.Said.{Said, value, refused}
 use Rattle.memory.specs.Lists.{part}
 use Rattle.halves.specs.declared.how.How.{How}
 use Rattle.halves.specs.declared.how.How.TheVariants.{Exact, Cut, Flushed, SentToInfinity}
 use Rattle.quantizers.specs.Blocks.{scale_of, stored_scale}
 use Rattle.quantizers.specs.declared.target.Target.{Target}
 use Rattle.quantizers.specs.declared.lost.Lost.{Lost}
-use Rattle.quantizers.specs.declared.lost.Packing.{Packing}
-use Rattle.quantizers.specs.declared.lost.Packing.TheVariants as packing
 
 -- so many scales flushed to zero, and so many sent to infinity
 abbrev pub lost : (flushed infinite : ℕ) → Lost
@@ -33,8 +30,3 @@ lost_in t xs (suc n) = counted (lost_in t xs n) (scale_fares t (part xs (n * 32)
 -- what those of all of them lost
 abbrev pub lost_by : Target → List Float → Lost
 lost_by t xs = lost_in t xs (length xs / 32)
-
--- what each answer of a quantizer says
-abbrev pub packing_says : Packing → Said Lost
-packing_says (packing.Packed l) = value l
-packing_says (packing.Refused why) = refused why

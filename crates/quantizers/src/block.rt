@@ -105,9 +105,9 @@ pub fn quantize_block(target: Target, x: &[f32], out: &mut [u8]) -> How
     let d = scale_of(target, x);
     let inverse = readings::inverse_of(d);
     let stored = stored_scale(target, d);
-    let half = stored.bits;
-    out[0] = (half % 256) as u8;
-    out[1] = (half / 256) as u8;
+    let half = stored.bits.to_le_bytes();
+    out[0] = half[0];
+    out[1] = half[1];
     match target {
         Target::Q40 => write_quants_q4_0(x, inverse, &mut out[2..18]),
         Target::Q40Ggml => write_quants_q4_0_ggml(x, inverse, &mut out[2..18]),

@@ -7,5 +7,5 @@ mod lost;
 mod target;
 
 pub use blocks::{quantize_iq4_nl, quantize_q4_0, quantize_q4_0_ggml, quantize_q8_0};
-pub use lost::{Lost, Packing};
+pub use lost::Lost;
 pub use target::Target;

@@ -1,22 +1,14 @@
-// What the blocks' scales lost when they were stored, and what a quantizer answers.
+// What the blocks' scales lost when they were stored.
 ghost use Rattle.std.specs.Prelude.{◌≡◌, ◌+◌, ◌<◌, ◌^◌};
 ghost use Rattle.quantizers.specs.Lost.{counted};
 
 use halves::How;
-use refusals::Refusal;
 
 // How many blocks' scales were flushed to zero, and how many were sent to infinity.
 #[derive(Clone, Copy)]
 pub struct Lost {
     pub flushed: usize,
     pub infinite: usize,
-}
-
-// What a quantizer answers: that every block is packed, with what their scales lost, or why it says no.
-#[derive(Clone, Copy)]
-pub enum Packing {
-    Packed(Lost),
-    Refused(Refusal),
 }
 
 // What is lost once one more scale fared like this.

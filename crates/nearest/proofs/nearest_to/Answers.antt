@@ -52,7 +52,6 @@ loop-k-preserved c =
 pub returns : goal.returns
 returns c =
     let l = c.loop-k in
-    let s = c in
     let all : l.k ≡ 15 = omega (arith, c.loop-k-test.false) in
-    let e : l.n ≡ nearer_next (byte_read s.args.q) 15 = l.invariant.0 ∙ ap (nearer_next (byte_read s.args.q)) all in
-    (e ∙ (searched (of_z w8 s.args.q) (of_z_fits w8 s.args.q s.ranges.q).fits).0 ∙ ap nearest (read_is w8 s.args.q s.ranges.q.sfits), omega arith)
+    let e : l.n ≡ nearer_next (byte_read c.args.q) 15 = l.invariant.0 ∙ ap (nearer_next (byte_read c.args.q)) all in
+    (e ∙ (searched (of_z w8 c.args.q) (of_z_fits w8 c.args.q c.ranges.q).fits).0 ∙ ap nearest (read_is w8 c.args.q c.ranges.q.sfits), omega arith)

@@ -18,10 +18,9 @@ read_sum x y {s} p h k e = read_is w16 s p ∙ e ∙ ap (λ (z : ℤ). z +ℤ by
 -- what the code compares is what the definition does
 told : (c : After-sum_of-2) → (let a = c.args in lt_z (to_z w16 (of_z w16 c.sum_of.result)) (to_z w16 (of_z w16 c.sum_of-2.result)) ≡ lt_z (a.value +ℤ a.next) (a.q +ℤ a.q))
 told c =
-    let s = c in
-    let q = s.ranges.q.sfits in
-    let both : to_z w16 (of_z w16 c.sum_of.result) ≡ s.args.value +ℤ s.args.next = read_sum s.args.value s.args.next c.sum_of.type_inv s.ranges.value.sfits s.ranges.next.sfits c.sum_of.ensures in
-    let twice : to_z w16 (of_z w16 c.sum_of-2.result) ≡ s.args.q +ℤ s.args.q = read_sum s.args.q s.args.q c.sum_of-2.type_inv q q c.sum_of-2.ensures in
+    let q = c.ranges.q.sfits in
+    let both : to_z w16 (of_z w16 c.sum_of.result) ≡ c.args.value +ℤ c.args.next = read_sum c.args.value c.args.next c.sum_of.type_inv c.ranges.value.sfits c.ranges.next.sfits c.sum_of.ensures in
+    let twice : to_z w16 (of_z w16 c.sum_of-2.result) ≡ c.args.q +ℤ c.args.q = read_sum c.args.q c.args.q c.sum_of-2.type_inv q q c.sum_of-2.ensures in
     rw (both, twice)
 
 pub returns-then-sum_of : goal.returns-then-sum_of

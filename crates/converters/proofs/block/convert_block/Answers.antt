@@ -10,7 +10,6 @@ use Rattle.converters.specs.Orders.{moved_byte, converted_byte}
 use Rattle.converters.specs.declared.direction.Direction.{Direction}
 use Rattle.converters.specs.declared.direction.Direction.TheVariants.{ToGgml, FromGgml}
 use Rattle.converters.proofs.Moved.{behind_scale}
-use Rattle.converters.proofs.block.convert_block.Goals.{Start}
 use Rattle.converters.proofs.block.convert_block.Goals as goal
 
 pub slice_bounds-move_apart-end : goal.slice_bounds-move_apart-end
@@ -20,28 +19,27 @@ pub slice_bounds-move_together-end : goal.slice_bounds-move_together-end
 slice_bounds-move_together-end c = simp length-set (omega arith)
 
 -- the output with the scale's two bytes
-abbrev scaled : Start → List ℕ
-scaled t = let bs = t.args.block.now in set (set t.args.out.now 0 (get_or bs 0 0)) 1 (get_or bs 1 0)
+abbrev scaled : (bs out : List ℕ) → List ℕ
+scaled bs out = set (set out 0 (get_or bs 0 0)) 1 (get_or bs 1 0)
 
 -- the same after the arm of the direction u that the code was told of
-by : (u : Direction) (t : Start) {ys : List ℕ} → t.args.direction ≡ u → ys ≡ table (moved_byte u t.args.block.now) 16
-    → take 2 (scaled t) ++ (ys ++ drop (18 - 2) (drop 2 (scaled t))) ≡ table (converted_byte t.args.direction t.args.block.now) 18
+by : (d u : Direction) (bs out : List ℕ) {ys : List ℕ} → length out ≡ 18 → d ≡ u → ys ≡ table (moved_byte u bs) 16
+    → take 2 (scaled bs out) ++ (ys ++ drop (18 - 2) (drop 2 (scaled bs out))) ≡ table (converted_byte d bs) 18
 unfolding converted_byte
-by u t e Y =
-    let bs = t.args.block.now in
-    block_written 18 16 refl (converted_byte u bs) (moved_byte u bs) t.args.out.now _ _ _ t.requires.1 refl refl Y (behind_scale u bs) ∙ ap (λ (d : Direction). table (converted_byte d bs) 18) (sym e)
+by d u bs out L e Y =
+    block_written 18 16 refl (converted_byte u bs) (moved_byte u bs) out _ _ _ L refl refl Y (behind_scale u bs) ∙ ap (λ (d : Direction). table (converted_byte d bs) 18) (sym e)
 
-long : (t : Start) (g : ℕ → ℕ) {ys : List ℕ} → ys ≡ table g 16 → length (take 2 (scaled t) ++ (ys ++ drop (18 - 2) (drop 2 (scaled t)))) ≡ length t.args.out.now
-long t g {ys} Y = block_long 18 16 refl g (scaled t) ys (simp length-set t.requires.1) Y ∙ sym t.requires.1
+long : (bs out : List ℕ) (g : ℕ → ℕ) {ys : List ℕ} → length out ≡ 18 → ys ≡ table g 16 → length (take 2 (scaled bs out) ++ (ys ++ drop (18 - 2) (drop 2 (scaled bs out)))) ≡ length out
+long bs out g {ys} L Y = block_long 18 16 refl g (scaled bs out) ys (simp length-set L) Y ∙ sym L
 
 pub shape_of-out-in-ToGgml : goal.shape_of-out-in-ToGgml
-shape_of-out-in-ToGgml c = long c.before.before.before.before.before.before.before.before.before.before _ c.move_apart.ensures
+shape_of-out-in-ToGgml c = long c.args.block.now c.args.out.now _ c.requires.1 c.move_apart.ensures
 
 pub returns-in-ToGgml : goal.returns-in-ToGgml
-returns-in-ToGgml c = by ToGgml c.before.before.before.before.before.before.before.before.before.before c.in-ToGgml.is c.move_apart.ensures
+returns-in-ToGgml c = by _ ToGgml c.args.block.now c.args.out.now c.requires.1 c.in-ToGgml.is c.move_apart.ensures
 
 pub shape_of-out-in-FromGgml : goal.shape_of-out-in-FromGgml
-shape_of-out-in-FromGgml c = long c.before.before.before.before.before.before.before.before.before.before _ c.move_together.ensures
+shape_of-out-in-FromGgml c = long c.args.block.now c.args.out.now _ c.requires.1 c.move_together.ensures
 
 pub returns-in-FromGgml : goal.returns-in-FromGgml
-returns-in-FromGgml c = by FromGgml c.before.before.before.before.before.before.before.before.before.before c.in-FromGgml.is c.move_together.ensures
+returns-in-FromGgml c = by _ FromGgml c.args.block.now c.args.out.now c.requires.1 c.in-FromGgml.is c.move_together.ensures

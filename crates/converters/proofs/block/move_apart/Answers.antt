@@ -17,11 +17,10 @@ bounds-out-k-in-loop-k c = rw length-set (omega arith)
 
 pub loop-k-preserved : goal.loop-k-preserved
 loop-k-preserved c =
-    let m = c in
-    let bs = m.args.block.now in
-    let k = m.loop-k.k in
-    pairs_more 8 (λ i. i / 2) (moved_byte ToGgml bs) 0 m.loop-k.out k _ _ c.loop-k-test.true (c.low_nibbles.ensures ∙ sym (apart_even bs k)) (c.high_nibbles.ensures ∙ sym (apart_odd bs k))
-    (λ a b i h. own_neighbours k a b i) m.loop-k.invariant
+    let bs = c.args.block.now in
+    let k = c.loop-k.k in
+    pairs_more 8 (λ i. i / 2) (moved_byte ToGgml bs) 0 c.loop-k.out k _ _ c.loop-k-test.true (c.low_nibbles.ensures ∙ sym (apart_even bs k)) (c.high_nibbles.ensures ∙ sym (apart_odd bs k))
+    (λ a b i h. own_neighbours k a b i) c.loop-k.invariant
 
 pub shape_of-out : goal.shape_of-out
 shape_of-out c = c.loop-k.invariant.0.0 ∙ sym c.requires.1

@@ -17,12 +17,11 @@ bounds-out-k-in-loop-k c = rw length-set (omega arith)
 
 pub loop-k-preserved : goal.loop-k-preserved
 loop-k-preserved c =
-    let m = c in
-    let bs = m.args.block.now in
-    let k = m.loop-k.k in
+    let bs = c.args.block.now in
+    let k = c.loop-k.k in
     let h : k < 8 = c.loop-k-test.true in
-    pairs_more 8 (λ i. i % 8) (moved_byte FromGgml bs) 0 m.loop-k.out k _ _ h (c.low_nibbles.ensures ∙ sym (together_first bs k h)) (c.high_nibbles.ensures ∙ sym (together_second bs k h))
-    (own_halves 8 k) m.loop-k.invariant
+    pairs_more 8 (λ i. i % 8) (moved_byte FromGgml bs) 0 c.loop-k.out k _ _ h (c.low_nibbles.ensures ∙ sym (together_first bs k h)) (c.high_nibbles.ensures ∙ sym (together_second bs k h))
+    (own_halves 8 k) c.loop-k.invariant
 
 pub shape_of-out : goal.shape_of-out
 shape_of-out c = c.loop-k.invariant.0.0 ∙ sym c.requires.1

@@ -8,15 +8,14 @@ use Rattle.converters.specs.Says.{convert_says}
 use Rattle.converters.proofs.Refused.{whole_and_room}
 use Rattle.converters.proofs.blocks.convert.Goals as goal
 
-pub returns-in-Refused : goal.returns-in-Refused
+pub returns-in_err-convert_refusal : goal.returns-in_err-convert_refusal
 unfolding convert_says
-returns-in-Refused c = refused_out _ _ c.convert_refusal-checked.ensures c.in-Refused.is
+returns-in_err-convert_refusal c = refused_out _ _ c.in_err-convert_refusal.ensures c.from_residual.ensures.1
 
 pub convert_blocks-requires : goal.convert_blocks-requires
-convert_blocks-requires c = whole_and_room _ _ (check_passed c.convert_refusal-checked.ensures c.in_default.is)
+convert_blocks-requires c = whole_and_room _ _ (check_passed c.in_ok-convert_refusal.ensures)
 
 pub returns : goal.returns
 unfolding convert_says
 returns c =
-    let f = c in
-    ap (λ (left : List ℕ). (done, left)) c.convert_blocks.ensures ∙ done_out _ _ f.convert_refusal-checked.ensures f.in_default.is
+    ap (λ (left : List ℕ). (done, left)) c.convert_blocks.ensures ∙ done_out _ _ c.in_ok-convert_refusal.ensures

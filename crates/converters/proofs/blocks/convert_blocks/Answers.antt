@@ -26,15 +26,13 @@ convert_block-requires c =
 
 pub loop-b-preserved : goal.loop-b-preserved
 loop-b-preserved c =
-    let d = c in
-    let l = d.loop-b in
-    let t = d in
-    let to = t.args.direction in
-    let bs = t.args.bytes.now in
+    let l = c.loop-b in
+    let to = c.args.direction in
+    let bs = c.args.bytes.now in
     let b = l.b in
     let size : b * 18 + 18 - b * 18 ≡ 18 = omega arith in
-    let inside : b * 18 + 18 ≤ length t.args.out.now = omega arith in
-    parts_more (converted_at to bs) t.args.out.now (λ k. k * 18) (length bs / 18) (converted_byte to (take (b * 18 + 18 - b * 18) (drop (b * 18) bs))) l.out _ b 18 d.loop-b-test.true (rw add-one (suc-mul b 18)) inside c.convert_block.ensures
+    let inside : b * 18 + 18 ≤ length c.args.out.now = omega arith in
+    parts_more (converted_at to bs) c.args.out.now (λ k. k * 18) (length bs / 18) (converted_byte to (take (b * 18 + 18 - b * 18) (drop (b * 18) bs))) l.out _ b 18 c.loop-b-test.true (rw add-one (suc-mul b 18)) inside c.convert_block.ensures
     (λ i h. rw size (placed to bs b i h)) l.invariant
 
 pub shape_of-out : goal.shape_of-out
@@ -43,8 +41,7 @@ shape_of-out c = c.loop-b.invariant.2
 pub returns : goal.returns
 returns c =
     let l = c.loop-b in
-    let t = c in
-    let f = converted_at t.args.direction t.args.bytes.now in
-    let n = length t.args.bytes.now in
-    let whole : n / 18 * 18 ≡ n = omega (arith, t.requires.0) in
-    parts_done f t.args.out.now (λ k. k * 18) (n / 18) l.out l.b c.loop-b-test.false l.invariant ∙ ap (filled f t.args.out.now) whole
+    let f = converted_at c.args.direction c.args.bytes.now in
+    let n = length c.args.bytes.now in
+    let whole : n / 18 * 18 ≡ n = omega (arith, c.requires.0) in
+    parts_done f c.args.out.now (λ k. k * 18) (n / 18) l.out l.b c.loop-b-test.false l.invariant ∙ ap (filled f c.args.out.now) whole

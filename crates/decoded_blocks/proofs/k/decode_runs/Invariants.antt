@@ -1,5 +1,5 @@
 -- `k::decode_runs` meets its contract: in turn e the run of 16 from 16 e on is filled. Assumes nothing.
-use Prim.Native.Nat.{ℕ, ◌-◌, ◌*◌}
+use Prim.Native.Nat.{ℕ, ◌*◌}
 use mathlib.Core.List.{List}
 use lib.IntN.{ℤ, pos}
 use lib.ListN.{get_or}
@@ -14,6 +14,3 @@ values bs q i = value_of Q6K bs i (get_or q i (pos 0))
 
 abbrev pub invariant-loop-e : goal.invariant-loop-e
 invariant-loop-e l = InParts (values l.block l.q) l.initial.out (λ r. 16 * r) 16 l.out l.e
-
-abbrev pub decreases-loop-e : goal.decreases-loop-e
-decreases-loop-e l = 16 - l.e

@@ -13,20 +13,17 @@ loop-e-init c = let a = c.args in parts_none (values a.block.now a.q.now) a.out.
 pub scale_run_less-requires : goal.scale_run_less-requires
 scale_run_less-requires c =
     let l = c.loop-e in
-    let t = c in
-    run_lengths t.args.q.now l.out 16 l.e t.requires.1 (l.invariant.2 ∙ t.requires.2) (omega arith)
+    run_lengths c.args.q.now l.out 16 l.e c.requires.1 (l.invariant.2 ∙ c.requires.2) (omega arith)
 
 pub loop-e-preserved : goal.loop-e-preserved
 loop-e-preserved c =
-    let f = c in
     let l = c.loop-e in
     let h = c.loop-e-test.true in
-    let t = f in
-    let bs = t.args.block.now in
-    let q = t.args.q.now in
+    let bs = c.args.block.now in
+    let q = c.args.q.now in
     let e = l.e in
-    let s = f.scales_and_minimums-both in
-    parts_more (values bs q) t.args.out.now (λ r. 16 * r) 16 _ l.out _ e 16 h (omega arith) (omega (arith, t.requires.2)) c.scale_run_less.ensures (λ i g. sub_block_run bs e i (16 * e + 16 - 16 * e) (omega arith) h g s.result q s.ensures) l.invariant
+    let s = c.scales_and_minimums-both in
+    parts_more (values bs q) c.args.out.now (λ r. 16 * r) 16 _ l.out _ e 16 h (omega arith) (omega (arith, c.requires.2)) c.scale_run_less.ensures (λ i g. sub_block_run bs e i (16 * e + 16 - 16 * e) (omega arith) h g s.result q s.ensures) l.invariant
 
 pub shape_of-out : goal.shape_of-out
 shape_of-out c = c.loop-e.invariant.2
@@ -34,5 +31,4 @@ shape_of-out c = c.loop-e.invariant.2
 pub returns : goal.returns
 returns c =
     let l = c.loop-e in
-    let t = c in
-    runs_done (values t.args.block.now t.args.q.now) t.args.out.now l.out 16 l.e t.requires.2 (omega arith) l.invariant
+    runs_done (values c.args.block.now c.args.q.now) c.args.out.now l.out 16 l.e c.requires.2 (omega arith) l.invariant

@@ -9,15 +9,11 @@ loop-l-init c = filling_start (at c.args.q.now c.args.s c.args.m) c.args.out.now
 
 pub loop-l-preserved : goal.loop-l-preserved
 loop-l-preserved c =
-    let d = c in
-    let t = d in
-    filling_more (at t.args.q.now t.args.s t.args.m) t.args.out.now 16 d.loop-l.out d.loop-l.l _ t.requires.1 d.loop-l.invariant c.loop-l-test.true refl
+    filling_more (at c.args.q.now c.args.s c.args.m) c.args.out.now 16 c.loop-l.out c.loop-l.l _ c.requires.1 c.loop-l.invariant c.loop-l-test.true refl
 
 pub shape_of-out : goal.shape_of-out
 shape_of-out c = c.loop-l.invariant.2 ∙ sym c.requires.1
 
 pub returns : goal.returns
 returns c =
-    let d = c in
-    let t = d in
-    filling_done (at t.args.q.now t.args.s t.args.m) t.args.out.now 16 d.loop-l.out d.loop-l.l t.requires.1 d.loop-l.invariant c.loop-l-test.false
+    filling_done (at c.args.q.now c.args.s c.args.m) c.args.out.now 16 c.loop-l.out c.loop-l.l c.requires.1 c.loop-l.invariant c.loop-l-test.false

@@ -1,5 +1,5 @@
 -- `k::scale_run_less` meets its contract: the places are filled in turn. Assumes nothing.
-use Prim.Native.Nat.{ℕ, ◌-◌}
+use Prim.Native.Nat.{ℕ}
 use mathlib.Core.List.{List}
 use lib.IntN.{pos}
 use lib.ListN.{get_or}
@@ -12,6 +12,3 @@ at q s m l = sub binary32 (mul binary32 s (of_int binary32 (pos (get_or q l 0)))
 
 abbrev pub invariant-loop-l : goal.invariant-loop-l
 invariant-loop-l l = Filling (at l.q l.s l.m) l.initial.out 16 l.out l.l
-
-abbrev pub decreases-loop-l : goal.decreases-loop-l
-decreases-loop-l l = 16 - l.l

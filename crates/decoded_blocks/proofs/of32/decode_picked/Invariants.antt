@@ -1,5 +1,5 @@
 -- `of32::decode_picked` meets its contract: in turn k the places k and k + 16 are filled. Assumes nothing.
-use Prim.Native.Nat.{◌-◌, ◌%◌}
+use Prim.Native.Nat.{◌%◌}
 use lib.Ieee.{nan}
 use Rattle.layouts.specs.Of32.{quant32}
 use Rattle.layouts.specs.declared.format.Format32.TheVariants.{Iq4Nl}
@@ -9,6 +9,3 @@ use Rattle.decoded_blocks.proofs.of32.decode_picked.Given as goal
 
 abbrev pub invariant-loop-k : goal.invariant-loop-k
 invariant-loop-k l = Pairs 16 (λ i. i % 16) (λ i. times l.s (quant32 Iq4Nl l.block i)) nan l.out l.k
-
-abbrev pub decreases-loop-k : goal.decreases-loop-k
-decreases-loop-k l = 16 - l.k

@@ -11,24 +11,19 @@ use Rattle.decoded_blocks.proofs.of32.decode_q8_0.Goals as goal
 
 pub loop-k-init : goal.loop-k-init
 loop-k-init c =
-    let t = c in
-    filling_start (at c.f16_to_f32-s.result c.quants_q8_0-q.result) t.args.out.now 32 t.requires.1
+    filling_start (at c.f16_to_f32-s.result c.quants_q8_0-q.result) c.args.out.now 32 c.requires.1
 
 pub loop-k-preserved : goal.loop-k-preserved
 loop-k-preserved c =
-    let d = c in
-    let t = d in
-    let q = d.quants_q8_0-q.result in
-    let s = d.f16_to_f32-s.result in
-    filling_more (at s q) t.args.out.now 32 d.loop-k.out d.loop-k.k _ t.requires.1 d.loop-k.invariant c.loop-k-test.true (ap (times s) (read_is w8 _ (search rules)))
+    let q = c.quants_q8_0-q.result in
+    let s = c.f16_to_f32-s.result in
+    filling_more (at s q) c.args.out.now 32 c.loop-k.out c.loop-k.k _ c.requires.1 c.loop-k.invariant c.loop-k-test.true (ap (times s) (read_is w8 _ (search rules)))
 
 pub returns : goal.returns
 returns c =
-    let d = c in
-    let t = d in
-    let q = d.quants_q8_0-q in
-    let s = d.f16_to_f32-s in
-    let bs = t.args.block.now in
-    filling_done (at s.result q.result) t.args.out.now 32 d.loop-k.out d.loop-k.k t.requires.1 d.loop-k.invariant c.loop-k-test.false
+    let q = c.quants_q8_0-q in
+    let s = c.f16_to_f32-s in
+    let bs = c.args.block.now in
+    filling_done (at s.result q.result) c.args.out.now 32 c.loop-k.out c.loop-k.k c.requires.1 c.loop-k.invariant c.loop-k-test.false
     ∙ of_quants Q80 bs s.result q.result q.ensures
-    ∙ of_scale Q80 bs s.result (s.ensures ∙ ap widened d.le_u16.ensures)
+    ∙ of_scale Q80 bs s.result (s.ensures ∙ ap widened c.le_u16.ensures)

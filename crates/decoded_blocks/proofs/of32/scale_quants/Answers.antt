@@ -16,22 +16,18 @@ loop-e-init c =
 
 pub scale_run-requires : goal.scale_run-requires
 scale_run-requires c =
-    let d = c in
-    let t = d in
-    run_lengths t.args.q.now d.loop-e.out 2 d.loop-e.e (omega arith) (d.loop-e.invariant.2 ∙ t.requires.1) (omega arith)
+    run_lengths c.args.q.now c.loop-e.out 2 c.loop-e.e (omega arith) (c.loop-e.invariant.2 ∙ c.requires.1) (omega arith)
 
 pub loop-e-preserved : goal.loop-e-preserved
 loop-e-preserved c =
-    let d = c in
-    let a = d.args in
+    let a = c.args in
     let q = a.q.now in
-    let e = d.loop-e.e in
+    let e = c.loop-e.e in
     let n : 16 * e + 16 - 16 * e ≡ 16 = omega arith in
-    parts_more (at a.s q) a.out.now (λ r. 16 * r) 2 _ d.loop-e.out _ e 16 (omega arith) (omega arith) (omega arith) c.scale_run.ensures (λ i g. rw (n, part_at q (16 * e) 16 i (pos 0) g)) d.loop-e.invariant
+    parts_more (at a.s q) a.out.now (λ r. 16 * r) 2 _ c.loop-e.out _ e 16 (omega arith) (omega arith) (omega arith) c.scale_run.ensures (λ i g. rw (n, part_at q (16 * e) 16 i (pos 0) g)) c.loop-e.invariant
 
 pub returns : goal.returns
 returns c =
     let l = c.loop-e in
-    let t = c in
-    let a = t.args in
-    runs_done (at a.s a.q.now) a.out.now l.out 2 l.e t.requires.1 (omega arith) l.invariant
+    let a = c.args in
+    runs_done (at a.s a.q.now) a.out.now l.out 2 l.e c.requires.1 (omega arith) l.invariant

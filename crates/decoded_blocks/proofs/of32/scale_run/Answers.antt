@@ -12,13 +12,9 @@ loop-l-init c = filling_start (at c.args.s c.args.q.now) c.args.out.now 16 c.req
 
 pub loop-l-preserved : goal.loop-l-preserved
 loop-l-preserved c =
-    let d = c in
-    let t = d in
-    filling_more (at t.args.s t.args.q.now) t.args.out.now 16 d.loop-l.out d.loop-l.l _ t.requires.1 d.loop-l.invariant c.loop-l-test.true
-    (ap (times t.args.s) (read_is w8 _ (search rules)))
+    filling_more (at c.args.s c.args.q.now) c.args.out.now 16 c.loop-l.out c.loop-l.l _ c.requires.1 c.loop-l.invariant c.loop-l-test.true
+    (ap (times c.args.s) (read_is w8 _ (search rules)))
 
 pub returns : goal.returns
 returns c =
-    let d = c in
-    let t = d in
-    filling_done (at t.args.s t.args.q.now) t.args.out.now 16 d.loop-l.out d.loop-l.l t.requires.1 d.loop-l.invariant c.loop-l-test.false
+    filling_done (at c.args.s c.args.q.now) c.args.out.now 16 c.loop-l.out c.loop-l.l c.requires.1 c.loop-l.invariant c.loop-l-test.false

@@ -1,11 +1,7 @@
 -- `of32::scale_run` meets its contract: the places are filled in turn. Assumes nothing.
-use Prim.Native.Nat.{◌-◌}
 use Rattle.memory.proofs.Filled.{Filling}
 use Rattle.decoded_blocks.proofs.Scaled.{at}
 use Rattle.decoded_blocks.proofs.of32.scale_run.Given as goal
 
 abbrev pub invariant-loop-l : goal.invariant-loop-l
 invariant-loop-l l = Filling (at l.s l.q) l.initial.out 16 l.out l.l
-
-abbrev pub decreases-loop-l : goal.decreases-loop-l
-decreases-loop-l l = 16 - l.l

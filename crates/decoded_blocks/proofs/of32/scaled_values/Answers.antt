@@ -15,14 +15,12 @@ loop-n-init c = filling_start (at c.args.s c.values_iq4_nl-values.result) _ 16 r
 
 pub loop-n-preserved : goal.loop-n-preserved
 loop-n-preserved c =
-    let d = c in
-    let s = d.args.s in
-    let v = d.values_iq4_nl-values.result in
-    filling_more (at s v) _ 16 d.loop-n.scaled d.loop-n.n _ refl d.loop-n.invariant c.loop-n-test.true (ap (times s) (read_is w8 _ (search rules)))
+    let s = c.args.s in
+    let v = c.values_iq4_nl-values.result in
+    filling_more (at s v) _ 16 c.loop-n.scaled c.loop-n.n _ refl c.loop-n.invariant c.loop-n-test.true (ap (times s) (read_is w8 _ (search rules)))
 
 pub returns : goal.returns
 returns c =
-    let d = c in
-    let s = d.args.s in
-    let v = d.values_iq4_nl-values in
-    filling_done (at s v.result) _ 16 d.loop-n.scaled d.loop-n.n refl d.loop-n.invariant c.loop-n-test.false ∙ ap (λ (q : List ℤ). table (at s q) 16) v.ensures
+    let s = c.args.s in
+    let v = c.values_iq4_nl-values in
+    filling_done (at s v.result) _ 16 c.loop-n.scaled c.loop-n.n refl c.loop-n.invariant c.loop-n-test.false ∙ ap (λ (q : List ℤ). table (at s q) 16) v.ensures

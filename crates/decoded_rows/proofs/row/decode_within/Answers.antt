@@ -3,12 +3,12 @@ use mathlib.Core.Path.{◌≡◌, refl, sym, ap, ◌∙◌}
 use Prim.Native.Nat.{ℕ, ◌+◌, ◌<◌}
 use native.Mathlib.Nat.{le_of_eq}
 use native.Mathlib.Omega.{arith}
-use mathlib.Core.List.{List}
-use lib.ListN.{length, get_or, take, replicate, get_or-append}
+use mathlib.Core.List.{List, ◌++◌}
+use lib.ListN.{length, take, get_or, replicate, get_or-append}
 use lib.Seq.{length-take-le}
 use lib.Ieee.{Float, nan}
 use Rattle.memory.specs.Lists.{table, filled}
-use Rattle.memory.proofs.Filled.{filling_start, filling_more, filling_done, filled_all, length_table, get_or_table, table_ext}
+use Rattle.memory.proofs.Filled.{filled_all, length_table, get_or_table, table_ext, filling_start, filling_more, filling_done}
 use Rattle.numbers.specs.Steps.{nought}
 use Rattle.layouts.specs.Formats.{block_values}
 use Rattle.layouts.specs.declared.format.Format.{Format}
@@ -29,43 +29,29 @@ slice_bounds-decode_blocks-end c = sym (front c.args.format _ c.block_values-val
 
 pub decode_blocks-requires : goal.decode_blocks-requires
 decode_blocks-requires c =
-    let t = c in
-    le_of_eq (block_values_lem t.args.format t.args.block.now t.requires.0 ∙ sym c.block_values-values.ensures ∙ sym (front c.args.format _ c.block_values-values.ensures))
+    le_of_eq (block_values_lem c.args.format c.args.block.now c.requires.0 ∙ sym c.block_values-values.ensures ∙ sym (front c.args.format _ c.block_values-values.ensures))
 
 pub loop-i-init : goal.loop-i-init
 loop-i-init c = filling_start _ _ _ refl
 
-pub overflow_add-out : goal.overflow_add-out
-overflow_add-out c = omega (arith, sizes c.args.format, c.requires.1, c.loop-i-test.true)
-
-pub offset_bounds-whole-from : goal.offset_bounds-whole-from
-offset_bounds-whole-from c = omega (arith, sizes c.args.format, c.requires.1, c.loop-i-test.true)
-
-pub bounds-whole-from : goal.bounds-whole-from
-bounds-whole-from c = omega (arith, sizes c.args.format, c.requires.1, c.loop-i-test.true)
-
 pub loop-i-preserved : goal.loop-i-preserved
-loop-i-preserved c = let l = c.loop-i in filling_more _ _ _ l.out l.i _ refl l.invariant c.loop-i-test.true refl
+loop-i-preserved c = let l = c.loop-i in filling_more _ _ _ l.out l.i _ refl l.invariant (omega arith) refl
 
-pub shape_of-out : goal.shape_of-out
-shape_of-out c = c.loop-i.invariant.2
+-- a place of a list that begins with a table
+place_at : (f : ℕ → Float) (ys rest : List Float) (v k : ℕ) → ys ≡ table f v → k < v → get_or (ys ++ rest) k nan ≡ f k
+place_at f ys rest v k e h = rw e (get_or-append (table f v) rest nan k (rw length_table h) ∙ get_or_table f v k nan h)
 
 pub returns : goal.returns
 returns c =
-    let t = c in
     let l = c.loop-i in
     let d = c.decode_blocks in
-    let values = c.block_values-values in
-    let block = t.args.block.now in
-    let f = value_in t.args.format block in
-    let v = block_values t.args.format in
+    let block = c.args.block.now in
+    let f = value_in c.args.format block in
+    let v = block_values c.args.format in
     let made : d.new.out ≡ table f v =
     d.ensures
-    ∙ ap (filled (weight_at t.args.format block) _) (block_values_lem t.args.format block t.requires.0)
-    ∙ filled_all (weight_at t.args.format block) _ v (le_of_eq (front c.args.format _ c.block_values-values.ensures ∙ values.ensures))
-    ∙ table_ext (weight_at t.args.format block) f v (block_weight t.args.format block t.requires.0) in
-    filling_done _ _ (length t.args.out.now) l.out l.i refl l.invariant c.loop-i-test.false
-    ∙ table_ext _ (λ i. f (t.args.from + i)) (length t.args.out.now) (λ i h.
-    let k : t.args.from + i < v = omega (arith, t.requires.1, h) in
-    let long : length d.new.out ≡ v = ap length made ∙ length_table f v in
-    get_or-append d.new.out _ nan (t.args.from + i) (rw long k) ∙ ap (λ (ys : List Float). get_or ys (t.args.from + i) nan) made ∙ get_or_table f v (t.args.from + i) nan k)
+    ∙ ap (filled (weight_at c.args.format block) _) (block_values_lem c.args.format block c.requires.0)
+    ∙ filled_all (weight_at c.args.format block) _ v (le_of_eq (front c.args.format _ c.block_values-values.ensures ∙ c.block_values-values.ensures))
+    ∙ table_ext (weight_at c.args.format block) f v (block_weight c.args.format block c.requires.0) in
+    filling_done _ _ (length c.args.out.now) l.out l.i refl l.invariant (omega arith)
+    ∙ table_ext _ (λ i. f (c.args.from + i)) (length c.args.out.now) (λ i h. place_at f d.new.out _ v (c.args.from + i) made (omega (arith, c.requires.1, h)))

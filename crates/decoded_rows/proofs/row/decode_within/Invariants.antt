@@ -1,5 +1,5 @@
 -- `row::decode_within` meets its contract: the block is decoded as a whole, and the places that are asked for are taken from it. Assumes nothing.
-use Prim.Native.Nat.{◌+◌, ◌-◌}
+use Prim.Native.Nat.{◌+◌}
 use lib.ListN.{length, get_or}
 use lib.Ieee.{nan}
 use Rattle.memory.proofs.Filled.{Filling}
@@ -7,6 +7,3 @@ use Rattle.decoded_rows.proofs.row.decode_within.Given as goal
 
 abbrev pub invariant-loop-i : goal.invariant-loop-i
 invariant-loop-i l = Filling (λ k. get_or l.whole (l.from + k) nan) l.initial.out (length l.initial.out) l.out l.i
-
-abbrev pub decreases-loop-i : goal.decreases-loop-i
-decreases-loop-i l = length l.initial.out - l.i

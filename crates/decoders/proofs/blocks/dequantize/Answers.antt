@@ -8,15 +8,14 @@ use Rattle.decoders.specs.Says.{dequantize_says}
 use Rattle.decoders.proofs.Refused.{room_for_values}
 use Rattle.decoders.proofs.blocks.dequantize.Goals as goal
 
-pub returns-in-Refused : goal.returns-in-Refused
+pub returns-in_err-dequantize_refusal : goal.returns-in_err-dequantize_refusal
 unfolding dequantize_says
-returns-in-Refused c = refused_out _ _ c.dequantize_refusal-checked.ensures c.in-Refused.is
+returns-in_err-dequantize_refusal c = refused_out _ _ c.in_err-dequantize_refusal.ensures c.from_residual.ensures.1
 
 pub decode_blocks-requires : goal.decode_blocks-requires
-decode_blocks-requires c = room_for_values _ _ _ (check_passed c.dequantize_refusal-checked.ensures c.in_default.is)
+decode_blocks-requires c = room_for_values _ _ _ (check_passed c.in_ok-dequantize_refusal.ensures)
 
 pub returns : goal.returns
 unfolding dequantize_says
 returns c =
-    let f = c in
-    ap (λ (left : List Float). (done, left)) c.decode_blocks.ensures ∙ done_out _ _ f.dequantize_refusal-checked.ensures f.in_default.is
+    ap (λ (left : List Float). (done, left)) c.decode_blocks.ensures ∙ done_out _ _ c.in_ok-dequantize_refusal.ensures

@@ -26,13 +26,11 @@ decode_q8_0-requires c =
 
 pub loop-b-preserved : goal.loop-b-preserved
 loop-b-preserved c =
-    let d = c in
-    let l = d.loop-b in
-    let t = d in
-    let bs = t.args.bytes.now in
+    let l = c.loop-b in
+    let bs = c.args.bytes.now in
     let b = l.b in
-    let inside : b * 32 + 32 ≤ length t.args.out.now = omega arith in
-    parts_more (weight_at q8_0 bs) t.args.out.now (λ k. k * 32) (length bs / 34) (value_in q8_0 (take (b * 34 + 34 - b * 34) (drop (b * 34) bs))) l.out _ b 32 d.loop-b-test.true (rw add-one (suc-mul b 32)) inside c.decode_q8_0.ensures
+    let inside : b * 32 + 32 ≤ length c.args.out.now = omega arith in
+    parts_more (weight_at q8_0 bs) c.args.out.now (λ k. k * 32) (length bs / 34) (value_in q8_0 (take (b * 34 + 34 - b * 34) (drop (b * 34) bs))) l.out _ b 32 c.loop-b-test.true (rw add-one (suc-mul b 32)) inside c.decode_q8_0.ensures
     (λ i h. placed q8_0 bs b i 34 32 refl refl h) l.invariant
 
 pub shape_of-out : goal.shape_of-out

@@ -26,12 +26,11 @@ overflow_add-q-in-loop-l-13 c = omega (arith, c.type_inv.block (144 + c.loop-l.l
 
 pub loop-l-preserved : goal.loop-l-preserved
 loop-l-preserved c =
-    let d = c in
-    let bs = d.args.block.now in
-    let l = d.loop-l.l in
+    let bs = c.args.block.now in
+    let l = c.loop-l.l in
     let h : l < 32 = c.loop-l-test.true in
     let at : (j p k b : ℕ) → p ≡ 32 * j + l → k ≡ 48 + (32 * (j / 2) + l) → b ≡ get_or bs (16 + l) 0 / 2 ^ j % 2 → nibble (get_or bs k 0) (j % 2) + 16 * b ≡ quant_q5k bs p = λ j p k b. q5k_at bs j l p k b h in
-    streamed_more (quant_q5k bs) 0 d.loop-l.q l _ _ _ _ _ _ _ _ h
+    streamed_more (quant_q5k bs) 0 c.loop-l.q l _ _ _ _ _ _ _ _ h
     (at 0 l (48 + l) (get_or bs (16 + l) 0 % 2) (omega arith) (omega arith) (omega arith))
     (at 1 (32 + l) (48 + l) _ (omega arith) (omega arith) refl)
     (at 2 (64 + l) (80 + l) _ (omega arith) (omega arith) refl)
@@ -40,7 +39,7 @@ loop-l-preserved c =
     (at 5 (160 + l) (112 + l) _ (omega arith) (omega arith) refl)
     (at 6 (192 + l) (144 + l) _ (omega arith) (omega arith) refl)
     (at 7 (224 + l) (144 + l) _ (omega arith) (omega arith) refl)
-    d.loop-l.invariant
+    c.loop-l.invariant
 
 pub returns : goal.returns
 returns c = let l = c.loop-l in streamed_all (quant_q5k c.args.block.now) 0 l.q l.l c.loop-l-test.false l.invariant

@@ -31,9 +31,8 @@ six_bits-requires-in-loop-l-7 c = omega (arith, c.type_inv.block (96 + c.loop-l.
 
 pub loop-l-preserved : goal.loop-l-preserved
 loop-l-preserved c =
-    let m = c in
-    let bs = m.args.block.now in
-    let l = m.loop-l.l in
+    let bs = c.args.block.now in
+    let l = c.loop-l.l in
     let k : l < 32 = c.loop-l-test.true in
     let s₁ = c.six_bits in
     let s₂ = c.six_bits-in-loop-l in
@@ -43,7 +42,7 @@ loop-l-preserved c =
     let s₆ = c.six_bits-in-loop-l-5 in
     let s₇ = c.six_bits-in-loop-l-6 in
     let s₈ = c.six_bits-in-loop-l-7 in
-    streamed_more (quant_q6k bs) (pos 0) m.loop-l.q l _ _ _ _ _ _ _ _ k
+    streamed_more (quant_q6k bs) (pos 0) c.loop-l.q l _ _ _ _ _ _ _ _ k
     (byte_read_lem s₁.type_inv (s₁.ensures ∙ first (get_or bs l 0 % 16) (get_or bs (128 + l) 0)) (q6k_at bs 0 0 l l l (128 + l) (omega arith) k (omega arith) (omega arith) (omega arith)))
     (byte_read_lem s₂.type_inv s₂.ensures (q6k_at bs 0 1 l (32 + l) (32 + l) (128 + l) (omega arith) k (omega arith) (omega arith) (omega arith)))
     (byte_read_lem s₃.type_inv s₃.ensures (q6k_at bs 0 2 l (64 + l) l (128 + l) (omega arith) k (omega arith) (omega arith) (omega arith)))
@@ -52,7 +51,7 @@ loop-l-preserved c =
     (byte_read_lem s₆.type_inv s₆.ensures (q6k_at bs 1 1 l (160 + l) (96 + l) (160 + l) (omega arith) k (omega arith) (omega arith) (omega arith)))
     (byte_read_lem s₇.type_inv s₇.ensures (q6k_at bs 1 2 l (192 + l) (64 + l) (160 + l) (omega arith) k (omega arith) (omega arith) (omega arith)))
     (byte_read_lem s₈.type_inv s₈.ensures (q6k_at bs 1 3 l (224 + l) (96 + l) (160 + l) (omega arith) k (omega arith) (omega arith) (omega arith)))
-    m.loop-l.invariant
+    c.loop-l.invariant
 
 pub returns : goal.returns
 returns c = let l = c.loop-l in streamed_all (quant_q6k c.args.block.now) (pos 0) l.q l.l c.loop-l-test.false l.invariant

@@ -1,5 +1,4 @@
 -- `k::quants_q6k` meets its contract: in turn l the eight places l, 32 + l, .. are filled. Assumes nothing.
-use Prim.Native.Nat.{◌-◌}
 use lib.IntN.{pos}
 use Rattle.layouts.specs.K.{quant_q6k}
 use Rattle.k_quants.proofs.Eight.{Streamed}
@@ -7,6 +6,3 @@ use Rattle.k_quants.proofs.k.quants_q6k.Given as goal
 
 abbrev pub invariant-loop-l : goal.invariant-loop-l
 invariant-loop-l l = Streamed (quant_q6k l.block) (pos 0) l.q l.l
-
-abbrev pub decreases-loop-l : goal.decreases-loop-l
-decreases-loop-l l = 32 - l.l

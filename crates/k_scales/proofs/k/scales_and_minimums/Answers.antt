@@ -15,17 +15,12 @@ loop-j-init c = pairs_none 8 (λ i. i % 8) (scale_then_minimum c.args.block.now)
 
 pub loop-j-preserved : goal.loop-j-preserved
 loop-j-preserved c =
-    let m = c in
-    let s = m in
-    let l = s in
-    let dmin = l in
-    let d = dmin in
-    let bs = d.args.block.now in
-    let j = l.loop-j.j in
-    let h = s.loop-j-test.true in
-    pairs_more 8 (λ i. i % 8) (scale_then_minimum bs) nan l.loop-j.s j _ _ h
-    (rw (d.f16_to_f32-d.ensures ∙ ap widened d.le_u16.ensures, s.scale_q4k.ensures.0, scale_first bs j h))
-    (rw (dmin.f16_to_f32-dmin.ensures ∙ ap widened dmin.le_u16-2.ensures, m.minimum_q4k.ensures.0, minimum_behind bs j h)) (own_halves 8 j) l.loop-j.invariant
+    let bs = c.args.block.now in
+    let j = c.loop-j.j in
+    let h = c.loop-j-test.true in
+    pairs_more 8 (λ i. i % 8) (scale_then_minimum bs) nan c.loop-j.s j _ _ h
+    (rw (c.f16_to_f32-d.ensures ∙ ap widened c.le_u16.ensures, c.scale_q4k.ensures.0, scale_first bs j h))
+    (rw (c.f16_to_f32-dmin.ensures ∙ ap widened c.le_u16-2.ensures, c.minimum_q4k.ensures.0, minimum_behind bs j h)) (own_halves 8 j) c.loop-j.invariant
 
 pub returns : goal.returns
 returns c =

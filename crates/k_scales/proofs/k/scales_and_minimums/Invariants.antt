@@ -1,5 +1,5 @@
 -- `k::scales_and_minimums` meets its contract: in turn j the places j and j + 8 are filled. Assumes nothing.
-use Prim.Native.Nat.{◌-◌, ◌%◌}
+use Prim.Native.Nat.{◌%◌}
 use lib.Ieee.{nan}
 use Rattle.layouts.proofs.Two.{Pairs}
 use Rattle.k_scales.specs.Both.{scale_then_minimum}
@@ -7,6 +7,3 @@ use Rattle.k_scales.proofs.k.scales_and_minimums.Given as goal
 
 abbrev pub invariant-loop-j : goal.invariant-loop-j
 invariant-loop-j l = Pairs 8 (λ i. i % 8) (scale_then_minimum l.block) nan l.s l.j
-
-abbrev pub decreases-loop-j : goal.decreases-loop-j
-decreases-loop-j l = 8 - l.j

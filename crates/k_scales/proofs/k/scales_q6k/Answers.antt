@@ -15,11 +15,10 @@ pub loop-e-preserved : goal.loop-e-preserved
 unfolding scale_q6k
 loop-e-preserved c =
     let l = c.loop-e in
-    let f = c in
-    let bs = f.args.block.now in
+    let bs = c.args.block.now in
     let h = c.loop-e-test.true in
     filling_more (d_scale Q6K bs) _ 16 l.s l.e _ refl l.invariant h
-    (rw (f.f16_to_f32-d.ensures ∙ ap widened f.le_u16.ensures, read_is w8 _ c.signed_byte.type_inv, c.signed_byte.ensures))
+    (rw (c.f16_to_f32-d.ensures ∙ ap widened c.le_u16.ensures, read_is w8 _ c.signed_byte.type_inv, c.signed_byte.ensures))
 
 pub returns : goal.returns
 returns c =

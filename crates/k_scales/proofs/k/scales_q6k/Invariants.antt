@@ -1,5 +1,4 @@
 -- `k::scales_q6k` meets its contract: the places are filled in turn. Assumes nothing.
-use Prim.Native.Nat.{◌-◌}
 use Rattle.layouts.specs.K.{d_scale}
 use Rattle.layouts.specs.declared.format.FormatK.TheVariants.{Q6K}
 use Rattle.memory.proofs.Filled.{Filling}
@@ -7,6 +6,3 @@ use Rattle.k_scales.proofs.k.scales_q6k.Given as goal
 
 abbrev pub invariant-loop-e : goal.invariant-loop-e
 invariant-loop-e l = Filling (d_scale Q6K l.block) l.initial.s 16 l.s l.e
-
-abbrev pub decreases-loop-e : goal.decreases-loop-e
-decreases-loop-e l = 16 - l.e

@@ -24,7 +24,7 @@ pub nibbles_iq4_nl-n-requires : goal.nibbles_iq4_nl-n-requires
 nibbles_iq4_nl-n-requires c = c.requires.0
 
 pub loop-k-init : goal.loop-k-init
-loop-k-init c = let t = c in filling_start (bytes t.args.x.now t.args.inverse) t.args.out.now 16 t.requires.1
+loop-k-init c = filling_start (bytes c.args.x.now c.args.inverse) c.args.out.now 16 c.requires.1
 
 pub overflow_mul-out : goal.overflow_mul-out
 overflow_mul-out c = omega (arith, nibble_small _ _ c.nibbles_iq4_nl-n.ensures (c.loop-k.k + 16) (omega arith))
@@ -47,5 +47,4 @@ shape_of-out c = c.loop-k.invariant.2 ∙ sym c.requires.1
 pub returns : goal.returns
 returns c =
     let l = c.loop-k in
-    let t = c in
-    filling_done (bytes t.args.x.now t.args.inverse) t.args.out.now 16 l.out l.k t.requires.1 l.invariant c.loop-k-test.false
+    filling_done (bytes c.args.x.now c.args.inverse) c.args.out.now 16 l.out l.k c.requires.1 l.invariant c.loop-k-test.false

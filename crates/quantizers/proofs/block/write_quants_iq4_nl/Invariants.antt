@@ -1,6 +1,6 @@
 -- `block::write_quants_iq4_nl` meets its contract: the places are filled in turn, from nibbles. Assumes nothing.
 use mathlib.Core.List.{List}
-use Prim.Native.Nat.{ℕ, ◌-◌}
+use Prim.Native.Nat.{ℕ}
 use lib.Ieee.{Float}
 use Rattle.memory.proofs.Filled.{Filling}
 use Rattle.quantizers.specs.declared.target.Target.TheVariants.{Iq4Nl}
@@ -13,6 +13,3 @@ bytes = written (Iq4Nl 0)
 
 abbrev pub invariant-loop-k : goal.invariant-loop-k
 invariant-loop-k l = Filling (bytes l.x l.inverse) l.initial.out 16 l.out l.k
-
-abbrev pub decreases-loop-k : goal.decreases-loop-k
-decreases-loop-k l = 16 - l.k

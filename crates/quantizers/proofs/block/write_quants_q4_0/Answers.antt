@@ -11,8 +11,7 @@ loop-k-init c = filling_start (written Q40 c.args.x.now c.args.inverse) c.args.o
 pub loop-k-preserved : goal.loop-k-preserved
 loop-k-preserved c =
     let l = c.loop-k in
-    let t = c in
-    filling_more (written Q40 t.args.x.now t.args.inverse) t.args.out.now 16 l.out l.k _ t.requires.1 l.invariant c.loop-k-test.true c.nibbles_of.ensures
+    filling_more (written Q40 c.args.x.now c.args.inverse) c.args.out.now 16 l.out l.k _ c.requires.1 l.invariant c.loop-k-test.true c.nibbles_of.ensures
 
 pub shape_of-out : goal.shape_of-out
 shape_of-out c = c.loop-k.invariant.2 ∙ sym c.requires.1
@@ -20,5 +19,4 @@ shape_of-out c = c.loop-k.invariant.2 ∙ sym c.requires.1
 pub returns : goal.returns
 returns c =
     let l = c.loop-k in
-    let t = c in
-    filling_done (written Q40 t.args.x.now t.args.inverse) t.args.out.now 16 l.out l.k t.requires.1 l.invariant c.loop-k-test.false
+    filling_done (written Q40 c.args.x.now c.args.inverse) c.args.out.now 16 l.out l.k c.requires.1 l.invariant c.loop-k-test.false

@@ -14,8 +14,7 @@ loop-k-init c = filling_start (written Q80 c.args.x.now c.args.inverse) c.args.o
 pub loop-k-preserved : goal.loop-k-preserved
 loop-k-preserved c =
     let l = c.loop-k in
-    let t = c in
-    filling_more (written Q80 t.args.x.now t.args.inverse) t.args.out.now 32 l.out l.k _ t.requires.1 l.invariant c.loop-k-test.true
+    filling_more (written Q80 c.args.x.now c.args.inverse) c.args.out.now 32 l.out l.k _ c.requires.1 l.invariant c.loop-k-test.true
     (c.unsigned_byte.ensures ∙ ap byte_of (read_is w8 _ c.round_q8.type_inv ∙ c.round_q8.ensures))
 
 pub shape_of-out : goal.shape_of-out
@@ -24,5 +23,4 @@ shape_of-out c = c.loop-k.invariant.2 ∙ sym c.requires.1
 pub returns : goal.returns
 returns c =
     let l = c.loop-k in
-    let t = c in
-    filling_done (written Q80 t.args.x.now t.args.inverse) t.args.out.now 32 l.out l.k t.requires.1 l.invariant c.loop-k-test.false
+    filling_done (written Q80 c.args.x.now c.args.inverse) c.args.out.now 32 l.out l.k c.requires.1 l.invariant c.loop-k-test.false

@@ -1,5 +1,4 @@
 -- `block::write_quants_q8_0` meets its contract: the places are filled in turn. Assumes nothing.
-use Prim.Native.Nat.{◌-◌}
 use Rattle.memory.proofs.Filled.{Filling}
 use Rattle.quantizers.specs.declared.target.Target.TheVariants.{Q80}
 use Rattle.quantizers.proofs.Bytes.{written}
@@ -7,6 +6,3 @@ use Rattle.quantizers.proofs.block.write_quants_q8_0.Given as goal
 
 abbrev pub invariant-loop-k : goal.invariant-loop-k
 invariant-loop-k l = Filling (written Q80 l.x l.inverse) l.initial.out 32 l.out l.k
-
-abbrev pub decreases-loop-k : goal.decreases-loop-k
-decreases-loop-k l = 32 - l.k

@@ -20,52 +20,19 @@ use Rattle.quantizers.proofs.Counts.{one_more, at_most}
 use Rattle.quantizers.proofs.blocks.quantize_blocks.Goals as goal
 
 -- block b's readings lie within the readings, its bytes lie within the output, and there are fewer blocks than readings
-facts : (t : Target) (b size n room : ℕ) {f : Format32} → size ≡ bytes32 f → f ≡ format_of t → bytes_for t n ≤ room → b < n / 32
+facts : (t : Target) {b size n room : ℕ} {f : Format32} → size ≡ bytes32 f → f ≡ format_of t → bytes_for t n ≤ room → b < n / 32
     → (b * 32 + 32 ≤ n) × (b * size + size ≤ room) × (b < n)
-facts t b size n room S f h k = part_within b 32 size n room k (rw (S, f) h)
+facts t {b} {size} {n} {room} S f h k = part_within b 32 size n room k (rw (S, f) h)
 
 pub loop-b-init : goal.loop-b-init
 unfolding lost_in
 loop-b-init c = (parts_none (packed_at c.args.target c.args.x.now) c.args.out.now (λ k. k * c.block_bytes-size.result) _ (zero-mul _), refl)
 
-pub overflow_mul-from : goal.overflow_mul-from
-overflow_mul-from c = omega (arith, facts c.args.target c.loop-b.b c.block_bytes-size.result (length c.args.x.now) (length c.args.out.now) c.block_bytes-size.ensures c.format_of.ensures c.requires c.loop-b-test.true)
-
-pub overflow_add-to : goal.overflow_add-to
-overflow_add-to c = omega (arith, facts c.args.target c.loop-b.b c.block_bytes-size.result (length c.args.x.now) (length c.args.out.now) c.block_bytes-size.ensures c.format_of.ensures c.requires c.loop-b-test.true)
-
-pub overflow_mul-at : goal.overflow_mul-at
-overflow_mul-at c = omega (arith, facts c.args.target c.loop-b.b c.block_bytes-size.result (length c.args.x.now) (length c.args.out.now) c.block_bytes-size.ensures c.format_of.ensures c.requires c.loop-b-test.true)
-
-pub overflow_add-end : goal.overflow_add-end
-overflow_add-end c = omega (arith, facts c.args.target c.loop-b.b c.block_bytes-size.result (length c.args.x.now) (length c.args.out.now) c.block_bytes-size.ensures c.format_of.ensures c.requires c.loop-b-test.true)
-
-pub offset_bounds-x-from : goal.offset_bounds-x-from
-offset_bounds-x-from c = omega (arith, facts c.args.target c.loop-b.b c.block_bytes-size.result (length c.args.x.now) (length c.args.out.now) c.block_bytes-size.ensures c.format_of.ensures c.requires c.loop-b-test.true)
-
-pub slice_bounds-quantize_block-count : goal.slice_bounds-quantize_block-count
-slice_bounds-quantize_block-count c = omega (arith, facts c.args.target c.loop-b.b c.block_bytes-size.result (length c.args.x.now) (length c.args.out.now) c.block_bytes-size.ensures c.format_of.ensures c.requires c.loop-b-test.true)
-
-pub slice_bounds-quantize_block-start : goal.slice_bounds-quantize_block-start
-slice_bounds-quantize_block-start c = omega (arith, facts c.args.target c.loop-b.b c.block_bytes-size.result (length c.args.x.now) (length c.args.out.now) c.block_bytes-size.ensures c.format_of.ensures c.requires c.loop-b-test.true)
-
-pub slice_bounds-quantize_block-end : goal.slice_bounds-quantize_block-end
-slice_bounds-quantize_block-end c = omega (arith, facts c.args.target c.loop-b.b c.block_bytes-size.result (length c.args.x.now) (length c.args.out.now) c.block_bytes-size.ensures c.format_of.ensures c.requires c.loop-b-test.true)
-
-pub slice_bounds-quantize_block-count-in-loop-b : goal.slice_bounds-quantize_block-count-in-loop-b
-slice_bounds-quantize_block-count-in-loop-b c = omega (arith, facts c.args.target c.loop-b.b c.block_bytes-size.result (length c.args.x.now) (length c.args.out.now) c.block_bytes-size.ensures c.format_of.ensures c.requires c.loop-b-test.true)
-
-pub slice_bounds-quantize_block-start-in-loop-b : goal.slice_bounds-quantize_block-start-in-loop-b
-slice_bounds-quantize_block-start-in-loop-b c = omega (arith, facts c.args.target c.loop-b.b c.block_bytes-size.result (length c.args.x.now) (length c.args.out.now) c.block_bytes-size.ensures c.format_of.ensures c.requires c.loop-b-test.true)
-
-pub slice_bounds-quantize_block-end-in-loop-b : goal.slice_bounds-quantize_block-end-in-loop-b
-slice_bounds-quantize_block-end-in-loop-b c = omega (arith, facts c.args.target c.loop-b.b c.block_bytes-size.result (length c.args.x.now) (length c.args.out.now) c.block_bytes-size.ensures c.format_of.ensures c.requires c.loop-b-test.true)
-
 pub quantize_block-how-requires : goal.quantize_block-how-requires
 quantize_block-how-requires c =
     let l = c.loop-b in
     let size = c.block_bytes-size in
-    let k = facts c.args.target c.loop-b.b c.block_bytes-size.result (length c.args.x.now) (length c.args.out.now) c.block_bytes-size.ensures c.format_of.ensures c.requires c.loop-b-test.true in
+    let k = facts c.args.target c.block_bytes-size.ensures c.format_of.ensures c.requires c.loop-b-test.true in
     let room : l.b * size.result + size.result ≤ length l.out = omega (arith, k.1, l.invariant.0.2) in (
       part_length c.args.x.now (l.b * 32) 32 (l.b * 32 + 32) refl k.0,
       part_length l.out (l.b * size.result) size.result (l.b * size.result + size.result) refl room ∙ (c.block_bytes-size.ensures ∙ ap bytes32 c.format_of.ensures),
@@ -75,14 +42,8 @@ quantize_block-how-requires c =
 pub count-lost-requires : goal.count-lost-requires
 count-lost-requires c =
     let l = c.loop-b in
-    let k = facts c.args.target c.loop-b.b c.block_bytes-size.result (length c.args.x.now) (length c.args.out.now) c.block_bytes-size.ensures c.format_of.ensures c.requires c.loop-b-test.true in
+    let k = facts c.args.target c.block_bytes-size.ensures c.format_of.ensures c.requires c.loop-b-test.true in
     rw l.invariant.1 (omega (arith, at_most c.args.target c.args.x.now l.b, k.2))
-
-pub overflow_add-b : goal.overflow_add-b
-overflow_add-b c = omega (arith, facts c.args.target c.loop-b.b c.block_bytes-size.result (length c.args.x.now) (length c.args.out.now) c.block_bytes-size.ensures c.format_of.ensures c.requires c.loop-b-test.true)
-
-pub loop-b-smaller : goal.loop-b-smaller
-loop-b-smaller c = omega (arith, c.loop-b-test.true)
 
 pub loop-b-preserved : goal.loop-b-preserved
 loop-b-preserved c =
@@ -92,7 +53,7 @@ loop-b-preserved c =
     let xs = c.args.x.now in
     let size = c.block_bytes-size.result in
     let S : size ≡ bytes32 (format_of u) = (c.block_bytes-size.ensures ∙ ap bytes32 c.format_of.ensures) in
-    let k = facts c.args.target c.loop-b.b c.block_bytes-size.result (length c.args.x.now) (length c.args.out.now) c.block_bytes-size.ensures c.format_of.ensures c.requires c.loop-b-test.true in
+    let k = facts c.args.target c.block_bytes-size.ensures c.format_of.ensures c.requires c.loop-b-test.true in
     let b = l.b in
     let g = byte_at u (take (b * 32 + 32 - b * 32) (drop (b * 32) xs)) in (
       parts_more (packed_at u xs) c.args.out.now (λ k. k * size) (length xs / 32) g l.out _ b size c.loop-b-test.true (rw add-one (suc-mul b size)) k.1 (q.1 ∙ ap (table g) (sym S)) (λ i h. placed u xs b i size S h) l.invariant.0,

@@ -25,8 +25,7 @@ size_is c = c.block_bytes.ensures ∙ ap bytes32 c.format_of.ensures
 
 pub overflow_mul-n : goal.overflow_mul-n
 overflow_mul-n c =
-    let t = c in
-    record { fits = few t.args.n 32 c.block_bytes.result (omega (arith, c.if-n-gt-MOST_FLOATS.false)) (omega (arith, least_32 (format_of t.args.target), size_is c)) }
+    record { fits = few c.args.n 32 c.block_bytes.result (omega (arith, c.if-n-gt-MOST_FLOATS.false)) (omega (arith, least_32 (format_of c.args.target), size_is c)) }
 
 pub returns-then-room-n : goal.returns-then-room-n
 unfolding quantize_refusal given
