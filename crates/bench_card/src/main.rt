@@ -22,8 +22,7 @@ fn run_rows(rt: &impl Print) {
 fn run_cases(rt: &impl Print, x: &[f32]) {
     let mut wrong: u64 = 0;
     let cases = [0usize, 1, 8_192, 8_193, 255, 256, 257];
-    for case in 0..7usize {
-        let n = cases[case];
+    for (case, &n) in cases.iter().enumerate() {
         let sum = run_only::plain_sum(x, n);
         let right = if case < 4 {
             run_only::against_ones(x, n, 0, sum)

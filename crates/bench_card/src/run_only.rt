@@ -14,18 +14,16 @@ pub const MOST: usize = 8_193;
 
 // Reading i is 1 to 7, in turn.
 pub fn fill(x: &mut [f32]) {
-    for i in 0..x.len() {
-        x[i] = (i % 7 + 1) as u8 as f32;
+    for (i, reading) in x.iter_mut().enumerate() {
+        *reading = (i % 7 + 1) as u8 as f32;
     }
 }
 
 // The first n readings, added up one after the other.
 pub fn plain_sum(x: &[f32], n: usize) -> f32 {
     let mut sum: f32 = 0.0;
-    for i in 0..x.len() {
-        if i < n {
-            sum = sum + x[i];
-        }
+    for &reading in x.iter().take(n) {
+        sum = sum + reading;
     }
     sum
 }
@@ -44,14 +42,7 @@ pub fn against_one_block(x: &[f32], n: usize, number: u32, sum: f32) -> bool
 {
     let mut block = [0x11u8; 144];
     // d = 1, dmin = 0, and the scales that are not 1 yet
-    block[0] = 0x00;
-    block[1] = 0x3C;
-    block[2] = 0x00;
-    block[3] = 0x00;
-    block[4] = 1;
-    block[5] = 1;
-    block[6] = 1;
-    block[7] = 1;
+    block[..8].copy_from_slice(&[0x00, 0x3C, 0x00, 0x00, 1, 1, 1, 1]);
     same_answer(
         dots_fused::canonical_dot_q4k_fused(x, &block, n),
         number,

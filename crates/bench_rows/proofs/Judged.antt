@@ -7,24 +7,23 @@ use native.Mathlib.Omega.{arith}
 use lib.ListN.{length, get_or, replicate, get_or-map}
 use lib.Ieee.{Float}
 use borrow.Author.Tests.{eq-eqb, le-ltb}
-use Rattle.refusals.specs.Said.{Said, value}
+use Rattle.refusals.specs.Said.{Said}
 use Rattle.refusals.specs.Refusals.{given, or_else, carried_out}
-use Rattle.refusals.specs.declared.Refusal.{Refusal}
+use Rattle.refusals.specs.declared.refusal.Refusal.{Refusal}
 use Rattle.refusals.proofs.Laws.{apart}
+use Rattle.std.proofs.Common.{Ok, Err}
 use Rattle.memory.specs.Lists.{filled}
 use Rattle.memory.proofs.Filled.{length_filled}
 use Rattle.quantizers.specs.Says.{packed_at, quantize_refusal, quantize_says}
-use Rattle.quantizers.specs.Lost.{lost_by, packing_says}
+use Rattle.quantizers.specs.Lost.{lost_by}
 use Rattle.quantizers.specs.declared.lost.Lost.{Lost}
-use Rattle.quantizers.specs.declared.lost.Packing.{Packing}
-use Rattle.quantizers.specs.declared.lost.Packing.TheVariants as packing
 use Rattle.quantizers.specs.declared.target.Target.TheVariants.{Q40}
 use Rattle.sums.specs.Says.{sum_says}
-use Rattle.dots_activation.specs.Blocks.{block_said, block_says}
+use Rattle.dots_activation.specs.Blocks.{block_says}
 use Rattle.dots_activation.specs.declared.block.Q8Block.{Q8Block}
 use Rattle.memory.proofs.Every.{every_all}
 use Rattle.replay_answers.specs.Same.{same_bytes}
-use Rattle.bench_rows.specs.Card.{Row, row, widen, floats, value_bits, written_by, first_quants, answer, card, row_at, same_numbers, answered}
+use Rattle.bench_rows.specs.Card.{Row, row, widen, floats, value_bits, written_by, quants_by, answer, card, row_at, same_numbers, answered}
 use Rattle.bench_rows.specs.Rows.{meant, judged}
 use Rattle.bench_rows.specs.declared.table.Row.TheVariants.{Packs, Sums, Quantizes}
 use Rattle.bench_rows.proofs.Card.{card_holds}
@@ -39,7 +38,7 @@ sayings a b c = a ∷ b ∷ c ∷ replicate 15 0x88
 abbrev pub packed_from : ℕ → List Float
 packed_from first = floats (first ∷ replicate 31 0)
 
-is_done : (first : ℕ) → quantize_says Q40 (packed_from first) (replicate 18 0) ≡ (value (lost_by Q40 (packed_from first)), filled (packed_at Q40 (packed_from first)) (replicate 18 0) 18)
+is_done : (first : ℕ) → quantize_says Q40 (packed_from first) (replicate 18 0) ≡ (Ok (lost_by Q40 (packed_from first)), filled (packed_at Q40 (packed_from first)) (replicate 18 0) 18)
 unfolding quantize_says quantize_refusal given or_else carried_out
 is_done first = refl
 
@@ -47,11 +46,9 @@ same_length : (xs ys : List ℕ) → length xs ≡ length ys → same_bytes xs y
 unfolding same_bytes same_numbers
 same_length xs ys h = rw (h, le-ltb (length ys) (length ys) (omega arith), eq-eqb (length ys) (length ys) refl)
 
-module _ (first a b c : ℕ) (o : Packing) (out : List ℕ) (e : (packing_says o, out) ≡ quantize_says Q40 (packed_from first) (replicate 18 0)) where
-  pub packed_done : (why : Refusal) → o ≡ packing.Refused why → ⊥
-  packed_done why r =
-      let d : packing_says o ≡ value (lost_by Q40 (packed_from first)) = ap (λ (p : Said Lost × List ℕ). p.0) (e ∙ is_done first) in
-      apart why _ (sym (ap packing_says r) ∙ d)
+module _ (first a b c : ℕ) (o : Said Lost) (out : List ℕ) (e : (o, out) ≡ quantize_says Q40 (packed_from first) (replicate 18 0)) where
+  pub packed_done : (why : Refusal) → o ≡ Err why → ⊥
+  packed_done why r = apart why _ (sym r ∙ ap (λ (p : Said Lost × List ℕ). p.0) (e ∙ is_done first))
 
   pub packed_judged : same_bytes out (sayings a b c) ≡ judged (Packs first a b c)
   unfolding judged meant answered answer
@@ -69,9 +66,9 @@ summed first bits s e = ap (λ (t : Said Float). same_numbers (value_bits t) (bi
 
 -- ---- activation blocks
 
-pub quantised : (x y inv a b c : ℕ) (block : Q8Block) → block ≡ block_said (block_says (floats (x ∷ y ∷ 0 ∷ []))) → same_numbers (first_quants 3 block) (inv ∷ a ∷ b ∷ c ∷ []) ≡ judged (Quantizes x y inv a b c)
+pub quantised : (x y inv a b c : ℕ) (s : Said Q8Block) → s ≡ block_says (floats (x ∷ y ∷ 0 ∷ [])) → same_numbers (quants_by 3 s) (inv ∷ a ∷ b ∷ c ∷ []) ≡ judged (Quantizes x y inv a b c)
 unfolding judged meant answered answer
-quantised x y inv a b c block e = ap (λ (r : Q8Block). same_numbers (first_quants 3 r) (inv ∷ a ∷ b ∷ c ∷ [])) e
+quantised x y inv a b c s e = ap (λ (t : Said Q8Block). same_numbers (quants_by 3 t) (inv ∷ a ∷ b ∷ c ∷ [])) e
 
 -- ---- the card
 

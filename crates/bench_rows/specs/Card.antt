@@ -1,9 +1,9 @@
 -- Document 01's bench card as one table: what each row asks, what the card says, and what the definitions that the
 -- contracts cite answer. Definitions only.
-use Rattle.std.specs.Prelude.{ℕ, ◌-◌, Bool, false, cond, List, [], ◌∷◌, map, eqb, ℤ, pos, length, get_or, replicate, Float}
+use Rattle.std.specs.Prelude.{ℕ, ◌-◌, Bool, false, cond, List, [], ◌∷◌, map, eqb, ℤ, pos, length, get_or, replicate, Float, Ok, Err}
 use Rattle.std.specs.Float.{binary32}
 use Rattle.std.specs.Float.Ieee.{of_bits, to_bits, of_int}
-use Rattle.refusals.specs.Said.{Said, value, refused}
+use Rattle.refusals.specs.Said.{Said}
 use Rattle.memory.specs.Lists.{table, every}
 use Rattle.halves.specs.Binary16.{widened, narrowed}
 use Rattle.numbers.specs.Fields.{byte_of}
@@ -12,7 +12,7 @@ use Rattle.quantizers.specs.Says.{quantize_says}
 use Rattle.quantizers.specs.declared.target.Target.TheVariants.{Q40}
 use Rattle.sums.specs.Says.{sum_says}
 use Rattle.dots_activation.specs.Whole.{elem}
-use Rattle.dots_activation.specs.Blocks.{block_said, block_says}
+use Rattle.dots_activation.specs.Blocks.{block_says}
 use Rattle.dots_activation.specs.declared.block.Q8Block.{Q8Block}
 
 -- What a row asks. A float is given by its bits, as the card writes it.
@@ -43,17 +43,22 @@ floats bs = map (of_bits binary32) bs
 
 -- the bits of the value that a sum answers; a refusal has none
 abbrev pub value_bits : Said Float → List ℕ
-value_bits (value v) = to_bits binary32 v ∷ []
-value_bits (refused why) = []
+value_bits (Ok v) = to_bits binary32 v ∷ []
+value_bits (Err why) = []
 
 -- what stands in the output of a call that is done; a refusal writes nothing
 abbrev pub written_by : {A : Type 0} → Said A × List ℕ → List ℕ
-written_by (value said, out) = out
-written_by (refused why, out) = []
+written_by (Ok said, out) = out
+written_by (Err why, out) = []
 
 -- of an activation block of n readings: the inverse of its scale, and their quants
 abbrev pub first_quants : ℕ → Q8Block → List ℕ
 first_quants n block = to_bits binary32 (inverse block.d) ∷ table (λ i. byte_of (elem block.qs i)) n
+
+-- of the block that is made of n readings: the same; a refusal makes none
+abbrev pub quants_by : ℕ → Said Q8Block → List ℕ
+quants_by n (Ok block) = first_quants n block
+quants_by n (Err why) = []
 
 -- what the definitions answer
 unfoldable pub answer : Asked → List ℕ
@@ -62,7 +67,7 @@ answer (encode bs) = map narrowed bs
 answer (packed bs) = written_by (quantize_says Q40 (floats bs) (replicate 18 0))
 answer (sum bs) = value_bits (sum_says (floats bs) (length bs))
 answer (becomes n) = to_bits binary32 (of_int binary32 n) ∷ []
-answer (quants bs) = first_quants (length bs) (block_said (block_says (floats bs)))
+answer (quants bs) = quants_by (length bs) (block_says (floats bs))
 answer (gives b) = byte_of (quant_q8 (of_bits binary32 b)) ∷ []
 
 -- a row of the card

@@ -7,9 +7,7 @@ use crate::table::Row;
 use dots_activation::Q8Block;
 use halves::{bits_of, f32_to_f16, of_bits};
 use numbers::unsigned_byte;
-use quantizers::Packing;
 use readings::{inverse_of, round_q8};
-use refusals::Answer;
 use replay_answers::same_bytes;
 
 fn widens(half: u16, bits: u32) -> bool
@@ -58,7 +56,7 @@ fn packs(first: u32, a: u8, b: u8, c: u8) -> bool
     card[1] = b;
     card[2] = c;
     let mut out = [0u8; 18];
-    let Packing::Packed(_) = quantizers::quantize_q4_0(&readings, &mut out) else {
+    let Ok(_) = quantizers::quantize_q4_0(&readings, &mut out) else {
         return false;
     };
     same_bytes(&out, &card)
@@ -69,7 +67,7 @@ fn sums_to(first: u32, bits: u32) -> bool
 {
     let mut readings = [1.0f32; 3];
     readings[0] = of_bits(first);
-    let Answer::Value(sum) = sums::canonical_sum_pub(&readings, 3) else {
+    let Ok(sum) = sums::canonical_sum_pub(&readings, 3) else {
         return false;
     };
     bits_of(sum) == bits
@@ -98,8 +96,9 @@ fn quantizes(x: u32, y: u32, inverse: u32, a: u8, b: u8, c: u8) -> bool
     let mut readings = [0.0f32; 3];
     readings[0] = of_bits(x);
     readings[1] = of_bits(y);
-    let answer = dots_activation::quantize_block_q8(&readings);
-    let block = answer.block;
+    let Ok(block) = dots_activation::quantize_block_q8(&readings) else {
+        return false;
+    };
     block_is(block, inverse, a, b, c)
 }
 

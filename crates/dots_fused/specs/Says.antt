@@ -1,8 +1,9 @@
 -- What a fused row dot says, refusals and all, in document 01's order. Definitions only.
-use Rattle.std.specs.Prelude.{List, not, cond, ℕ, ◌%◌, ltb, eqb, length, Float}
-use Rattle.refusals.specs.Said.{Said, value, no}
+use Rattle.std.specs.Prelude.{List, not, cond, ℕ, ◌%◌, ltb, eqb, length, Float, Ok}
+use Rattle.refusals.specs.Said.{Said}
 use Rattle.refusals.specs.Refusals.{given}
 use Rattle.refusals.specs.Sizes.{most_in}
+use Rattle.refusals.specs.declared.refusal.Refusal.TheVariants.{NotWholeBlocks, ReadingsShort, TooLarge}
 use Rattle.memory.specs.Lists.{stretches_in}
 use Rattle.numbers.specs.Steps.{nought}
 use Rattle.layouts.specs.Formats.{bytes_k}
@@ -18,9 +19,9 @@ use Rattle.dots_fused_block.specs.Terms.{terms}
 -- sum
 unfoldable pub fused_says : FormatK → List Float → List ℕ → ℕ → Said Float
 fused_says f x w n =
-    given (no 6) (ltb most_in n)
-    (given (no 1) (not (eqb (length w % bytes_k f) 0))
-    (cond (eqb n 0) (value nought)
+    given TooLarge (ltb most_in n)
+    (given NotWholeBlocks (not (eqb (length w % bytes_k f) 0))
+    (cond (eqb n 0) (Ok nought)
     (given (weights_short f (length w) (stretches_in 256 n)) (ltb (values_of (OfK f) (length w)) n)
-    (given (no 4) (ltb (length x) n)
-    (value (row_sum (terms f x w) n))))))
+    (given ReadingsShort (ltb (length x) n)
+    (Ok (row_sum (terms f x w) n))))))

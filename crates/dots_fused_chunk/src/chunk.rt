@@ -12,28 +12,27 @@ use dots_fused_block::{add_block, add_short};
 use layouts::{Format, FormatK};
 
 // The lanes of the whole blocks of x, the first of which has the weights of the first block of w.
+#[tactic(auto, using(crate::proofs::Rows::block_room))]
 fn whole_blocks(format: FormatK, x: &[f32], w: &[u8]) -> [f32; 8]
     requires { length x.now ≤ values_of (Format.OfK format) (length w.now) }
     ensures { result ≡ lanes (terms format x.now w.now)
         (256 * (length x.now / 256)) }
 {
     let size = layouts::block_bytes(Format::OfK(format));
-    let count = x.len() / 256;
     let mut out = [0.0f32; 8];
-    let mut b: usize = 0;
-    while b < count {
+    for b in 0..x.len() / 256 {
         let at = 256 * b;
         let end = at + 256;
         let from = b * size;
         let to = from + size;
         let next = add_block(format, out, &x[at..end], &w[from..to]);
         out = next;
-        b += 1;
     }
     out
 }
 
 // The lanes of all of x: its whole blocks, and after them the first places of one more.
+#[tactic(auto, using(crate::proofs::Rows::block_room))]
 fn all_blocks(format: FormatK, x: &[f32], w: &[u8]) -> [f32; 8]
     requires { length x.now ≤ values_of (Format.OfK format) (length w.now) }
     ensures { result ≡ lanes (terms format x.now w.now) (length x.now) }
@@ -53,6 +52,7 @@ fn all_blocks(format: FormatK, x: &[f32], w: &[u8]) -> [f32; 8]
 
 // The sum of chunk c of a row of n places: the products of the readings x and the weights that w packs, over the places
 // of this chunk alone. A chunk starts with a block.
+#[tactic(auto, using(crate::proofs::Rows::rest_room))]
 pub fn chunk_dot(format: FormatK, x: &[f32], w: &[u8], n: usize, c: usize) -> f32
     requires { (n ≤ most_in) × (n ≤ length x.now) × (n ≤ values_of (Format.OfK format) (length w.now))
         × (c < chunks_in n) }

@@ -5,9 +5,7 @@ use mathlib.Core.List.{List}
 use lib.ListN.{length}
 use lib.Ieee.{Float}
 use denote.Bor.{Bor}
-use Rattle.refusals.specs.declared.Answer.{Answer}
-use Rattle.refusals.specs.Said.{said_by}
-use Rattle.refusals.proofs.Once.{one_answer}
+use Rattle.refusals.specs.Said.{Said}
 use Rattle.sums.proofs.canonical_dot_pub.Reads as dot
 use Rattle.dots_laws.specs.Laws.{negated, DotTurned}
 use Rattle.dots_laws.proofs.Exchange.{exchanged}
@@ -15,10 +13,10 @@ use Rattle.dots_laws.proofs.Negation.{negation}
 
 -- ---- κs and μs are the lifetimes of two calls, at x and w and at y and z; r and s what they return, and t and u their parameters at exit
 
-pub dot_exchanged : (κs μs : _) (x w y z : Bor (List Float)) (n : ℕ) (r s : Answer) (t u : _) → y.now ≡ w.now → z.now ≡ x.now → n ≤ length x.now → n ≤ length w.now
+pub dot_exchanged : (κs μs : _) (x w y z : Bor (List Float)) (n : ℕ) (r s : Said Float) (t u : _) → y.now ≡ w.now → z.now ≡ x.now → n ≤ length x.now → n ≤ length w.now
     → dot.Post κs (x, (w, (n, tt))) r t → dot.Post μs (y, (z, (n, tt))) s u → s ≡ r
-dot_exchanged κs μs x w y z n r s t u e f h k p q = one_answer s r ((rw (e, f) at q) ∙ sym (exchanged.dots x.now w.now n h k) ∙ sym p)
+dot_exchanged κs μs x w y z n r s t u e f h k p q = (rw (e, f) at q) ∙ sym (exchanged.dots x.now w.now n h k) ∙ sym p
 
-pub dot_negated : (κs μs : _) (x w y z : Bor (List Float)) (n : ℕ) (r s : Answer) (t u : _) → y.now ≡ negated x.now → z.now ≡ w.now
-    → dot.Post κs (x, (w, (n, tt))) r t → dot.Post μs (y, (z, (n, tt))) s u → DotTurned (said_by s) (said_by r)
+pub dot_negated : (κs μs : _) (x w y z : Bor (List Float)) (n : ℕ) (r s : Said Float) (t u : _) → y.now ≡ negated x.now → z.now ≡ w.now
+    → dot.Post κs (x, (w, (n, tt))) r t → dot.Post μs (y, (z, (n, tt))) s u → DotTurned s r
 dot_negated κs μs x w y z n r s t u e f p q = rw (p, rw (e, f) at q) (negation.dots x.now w.now n)

@@ -9,9 +9,10 @@ use lib.Dec.{T, eqb}
 use lib.ListN.{get_or, drop, length-map, get_or-map, get_or-append}
 use lib.Seq.{drop_at}
 use lib.Ieee.{Float, nan, inf, fin, binary32, up, down, add, mul, neg, eq, is_nan, of_bits, of_fields, odd}
-use Rattle.refusals.specs.declared.Refusal.{Refusal}
-use Rattle.refusals.specs.Said.{Said, value, refused}
+use Rattle.refusals.specs.declared.refusal.Refusal.{Refusal}
+use Rattle.refusals.specs.Said.{Said}
 use Rattle.refusals.specs.Refusals.{given, carried_out}
+use Rattle.std.proofs.Common.{Ok, Err}
 use Rattle.numbers.specs.Alike.{Alike, same, zeros}
 use Rattle.numbers.proofs.FloatLaws.{alike_by, alike_then, add_alike, mul_alike, neg_add, neg_mul}
 use Rattle.numbers.specs.Steps.{nought}
@@ -135,10 +136,10 @@ filled_at p y n k u = get_or-append (table p n) (drop n y) nan k (rw length_tabl
 filled_turned : (n : ℕ) (p q : ℕ → Float) (refusal : Said (Unit {0})) (y : List Float) → ((k : ℕ) → Turned (p k) (q k))
     → LayerTurned n (carried_out refusal (filled p y n) y) (carried_out refusal (filled q y n) y)
 unfolding carried_out
-filled_turned n p q (value tt) y h =
+filled_turned n p q (Ok tt) y h =
     fills {y = filled p y n} {z = filled q y n} (λ k u. rw (filled_at p y n k u, filled_at q y n k u) (h k))
     (drop_at (table p n) (drop n y) n (length_table p n) ∙ sym (drop_at (table q n) (drop n y) n (length_table q n)))
-filled_turned n p q (refused why) y h = leaves why y
+filled_turned n p q (Err why) y h = leaves why y
 
 fused_layer_negated : (f : FormatK) (s : Shape) (x : List Float) (w : List ℕ) (y : List Float)
     → LayerTurned (s.batch * s.out_feat) (fused_layer_says f s (negated x) w y) (fused_layer_says f s x w y)

@@ -6,8 +6,9 @@ use Prim.Native.Nat.{ℕ}
 use native.Mathlib.Omega.{arith}
 use lib.IntN.{pos}
 use lib.Ieee.{Float, fin, binary32, of_bits, neg, add, mul}
-use Rattle.refusals.specs.Said.{value, refused, no}
 use Rattle.refusals.specs.Refusals.{given}
+use Rattle.std.proofs.Common.{Ok, Err}
+use Rattle.refusals.specs.declared.refusal.Refusal.TheVariants.{WeightsShort, ReadingsShort}
 use Rattle.memory.specs.Lists.{table}
 use Rattle.sums_tree.specs.Tree.{tree, met, pair_up}
 use Rattle.sums_lanes.specs.Lanes.{add_to, lanes_from, lanes, chunk_sum}
@@ -23,11 +24,11 @@ readings = of_bits binary32 0x3f80_0000 ∷ of_bits binary32 0x3f80_0000 ∷ []
 abbrev weights : List Float
 weights = of_bits binary32 0x3f80_0000 ∷ of_bits binary32 0xbf80_0000 ∷ []
 
-pub before : dot_says readings weights 2 ≡ value (of_bits binary32 0x0000_0000)
+pub before : dot_says readings weights 2 ≡ Ok (of_bits binary32 0x0000_0000)
 unfolding dot_says given row_sum chunk_at chunk_sum lanes lanes_from add_to tree met pair_up table add mul of_bits
 before = refl
 
-pub after : dot_says (negated readings) weights 2 ≡ value (of_bits binary32 0x0000_0000)
+pub after : dot_says (negated readings) weights 2 ≡ Ok (of_bits binary32 0x0000_0000)
 unfolding dot_says given row_sum chunk_at chunk_sum lanes lanes_from add_to tree met pair_up table add mul neg of_bits
 after = refl
 
@@ -36,19 +37,19 @@ pub negated_before : neg (of_bits binary32 0x0000_0000) ≡ of_bits binary32 0x8
 unfolding neg of_bits
 negated_before = refl
 
-pub not_by_bits : dot_says (negated readings) weights 2 ≡ value (of_bits binary32 0x8000_0000) → ⊥
+pub not_by_bits : dot_says (negated readings) weights 2 ≡ Ok (of_bits binary32 0x8000_0000) → ⊥
 unfolding of_bits
 not_by_bits e =
-    let b : value (fin false 0 (pos 0)) ≡ value (fin true 0 (pos 0)) = sym after ∙ e in
+    let b : Ok (fin false 0 (pos 0)) ≡ Ok (fin true 0 (pos 0)) = sym after ∙ e in
     let z : ◌≡◌ {A = ℕ} 0 1 = cc in
     omega arith
 
 -- ---- and why an exchange needs n values on both sides
 
-pub short_of_readings : dot_says [] weights 2 ≡ refused (no 4)
+pub short_of_readings : dot_says [] weights 2 ≡ Err ReadingsShort
 unfolding dot_says given
 short_of_readings = refl
 
-pub short_of_weights : dot_says weights [] 2 ≡ refused (no 3)
+pub short_of_weights : dot_says weights [] 2 ≡ Err WeightsShort
 unfolding dot_says given
 short_of_weights = refl

@@ -1,10 +1,10 @@
 -- Two laws of the fixed-order dot: readings and weights exchanged, and every reading negated. Definitions only.
 use Prim.{Unit}
-use Rattle.std.specs.Prelude.{ℕ, ◌*◌, ◌≤◌, ◌<◌, ◌≡◌, Bool, ◌&&◌, ◌||◌, List, map, T, length, get_or, drop, Float}
+use Rattle.std.specs.Prelude.{ℕ, ◌*◌, ◌≤◌, ◌<◌, ◌≡◌, Bool, ◌&&◌, ◌||◌, List, map, T, length, get_or, drop, Float, Ok, Err}
 use Rattle.std.specs.Float.{nan}
 use Rattle.std.specs.Float.Ieee.{eq, neg, is_nan}
-use Rattle.refusals.specs.declared.Refusal.{Refusal}
-use Rattle.refusals.specs.Said.{Said, value, refused, done}
+use Rattle.refusals.specs.declared.refusal.Refusal.{Refusal}
+use Rattle.refusals.specs.Said.{Said, done}
 use Rattle.numbers.specs.Alike.{Alike}
 use Rattle.layouts.specs.declared.format.FormatK.{FormatK}
 use Rattle.sums_lanes.specs.Lanes.{products}
@@ -39,15 +39,15 @@ agree a b = eq a b || is_nan a && is_nan b
 
 -- two dots: the values are turned, or both refuse for the same reason
 pub data DotTurned : Said Float → Said Float → Type 0 where
-  answers : {a b : Float} → Turned a b → DotTurned (value a) (value b)
-  refuses : (why : Refusal) → DotTurned (refused why) (refused why)
+  answers : {a b : Float} → Turned a b → DotTurned (Ok a) (Ok b)
+  refuses : (why : Refusal) → DotTurned (Err why) (Err why)
 
 -- two layers, and what their memory holds then: the n outputs are turned, each in its place, and the places behind
 -- them are the same; or both refuse for the same reason and leave the same
 pub data LayerTurned (n : ℕ) : Said (Unit {0}) × List Float → Said (Unit {0}) × List Float → Type 0 where
   fills : {y z : List Float} → ((k : ℕ) → k < n → Turned (get_or y k nan) (get_or z k nan)) → drop n y ≡ drop n z
       → LayerTurned n (done, y) (done, z)
-  leaves : (why : Refusal) (y : List Float) → LayerTurned n (refused why, y) (refused why, y)
+  leaves : (why : Refusal) (y : List Float) → LayerTurned n (Err why, y) (Err why, y)
 
 -- Negating every reading turns what is said: a value compares equal to the negated one, or both are NaN.
 pub record NegationLaw : Type 0 where

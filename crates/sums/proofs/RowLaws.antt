@@ -8,9 +8,9 @@ use borrow.Author.Tests.{le-ltb, ne_eqb}
 use lib.ListN.{length, take, drop, set}
 use lib.Seq.{take_at}
 use lib.Ieee.{Float}
-use Rattle.refusals.specs.Said.{value}
 use Rattle.refusals.specs.Refusals.{given}
 use Rattle.refusals.specs.Sizes.{most_in}
+use Rattle.std.proofs.Common.{Ok}
 use Rattle.memory.specs.Lists.{table, filled}
 use Rattle.memory.proofs.Filled.{length_table, table_ext, Filling, filling_start, filling_more}
 use Rattle.sums_tree.specs.Tree.{tree, met, pair_up, combined}
@@ -75,7 +75,7 @@ chunking_met p n old sums left c k r b e g w =
 not_nought : (m : ℕ) → suc m ≡ 0 → ⊥
 not_nought m e = omega arith
 
-pub dot_answers : (x w : List Float) (n : ℕ) → n ≤ most_in → n ≤ length x → n ≤ length w → dot_says x w n ≡ value (row_sum (products x w) n)
+pub dot_answers : (x w : List Float) (n : ℕ) → n ≤ most_in → n ≤ length x → n ≤ length w → dot_says x w n ≡ Ok (row_sum (products x w) n)
 unfolding dot_says given row_sum tree met table
 dot_answers x w zero most enough e = refl
 dot_answers x w (suc m) most enough e = simp (le-ltb _ _ most, ne_eqb _ _ (not_nought m), le-ltb _ _ e, le-ltb _ _ enough)

@@ -1,8 +1,9 @@
 -- What the calls say, refusals and all, in document 01's order. Definitions only.
-use Rattle.std.specs.Prelude.{List, cond, ℕ, ltb, eqb, length, Float}
-use Rattle.refusals.specs.Said.{Said, value, no}
+use Rattle.std.specs.Prelude.{List, cond, ℕ, ltb, eqb, length, Float, Ok}
+use Rattle.refusals.specs.Said.{Said}
 use Rattle.refusals.specs.Refusals.{given}
 use Rattle.refusals.specs.Sizes.{most_in}
+use Rattle.refusals.specs.declared.refusal.Refusal.TheVariants.{WeightsShort, ReadingsShort, TooLarge}
 use Rattle.numbers.specs.Steps.{nought}
 use Rattle.sums_lanes.specs.Lanes.{products, values}
 use Rattle.sums.specs.Rows.{row_sum}
@@ -11,16 +12,16 @@ use Rattle.sums.specs.Rows.{row_sum}
 -- row's sum
 unfoldable pub dot_says : List Float → List Float → ℕ → Said Float
 dot_says x w n =
-    given (no 6) (ltb most_in n)
-    (cond (eqb n 0) (value nought)
-    (given (no 3) (ltb (length w) n)
-    (given (no 4) (ltb (length x) n)
-    (value (row_sum (products x w) n)))))
+    given TooLarge (ltb most_in n)
+    (cond (eqb n 0) (Ok nought)
+    (given WeightsShort (ltb (length w) n)
+    (given ReadingsShort (ltb (length x) n)
+    (Ok (row_sum (products x w) n)))))
 
 -- `canonical_sum_pub`: the same, with no weights to be short of
 unfoldable pub sum_says : List Float → ℕ → Said Float
 sum_says x n =
-    given (no 6) (ltb most_in n)
-    (cond (eqb n 0) (value nought)
-    (given (no 4) (ltb (length x) n)
-    (value (row_sum (values x) n))))
+    given TooLarge (ltb most_in n)
+    (cond (eqb n 0) (Ok nought)
+    (given ReadingsShort (ltb (length x) n)
+    (Ok (row_sum (values x) n))))

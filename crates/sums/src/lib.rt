@@ -6,6 +6,6 @@ mod chunks;
 mod dot;
 mod sum;
 
-pub use chunks::{CHUNK, MOST_CHUNKS, chunk_end, chunks_in};
+pub use chunks::{CHUNK, MOST_CHUNKS, chunk_end, chunks_in, meet_chunks};
 pub use dot::canonical_dot_pub;
 pub use sum::canonical_sum_pub;

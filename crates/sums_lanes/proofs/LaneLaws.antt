@@ -62,17 +62,3 @@ adding_more l p n out i k h a = (omega arith, simp length-set a.1, lanes_turn l 
 
 pub adding_done : (l : List Float) (p : ℕ → Float) (n : ℕ) (out : List Float) (i : ℕ) → n ≤ i → Adding l p n out i → out ≡ lanes_from l p n
 adding_done l p n out i h a = let e : i ≡ n = omega arith in rw e at a.2
-
--- ---- n terms, eight at a time: after s of them the lanes are out
-
-abbrev pub Eights : List Float → (ℕ → Float) → ℕ → List Float → ℕ → Type 0
-Eights l p n out s = (s ≤ n) × (s % 8 ≡ 0) × (out ≡ lanes_from l p s)
-
-pub eights_more : (l : List Float) (p q : ℕ → Float) (n k : ℕ) (out next : List Float) (s : ℕ) → k ≡ 8 → s + 8 ≤ n → ((i : ℕ) → i < k → q i ≡ p (s + i)) → next ≡ lanes_from out q k
-    → Eights l p n out s → Eights l p n next (s + 8)
-eights_more l p q n k out next s g h t e u = (h, omega arith, e ∙ lanes_block l out p q s k u.1 t u.2 ∙ ap (λ (j : ℕ). lanes_from l p (s + j)) g)
-
--- the last, fewer than eight
-pub eights_done : (l : List Float) (p q : ℕ → Float) (n k : ℕ) (out next : List Float) (s : ℕ) → s + k ≡ n → ((i : ℕ) → i < k → q i ≡ p (s + i)) → next ≡ lanes_from out q k
-    → Eights l p n out s → next ≡ lanes_from l p n
-eights_done l p q n k out next s h t e u = e ∙ lanes_block l out p q s k u.1 t u.2 ∙ ap (lanes_from l p) h

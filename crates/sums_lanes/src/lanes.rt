@@ -1,47 +1,54 @@
 // The eight lanes: term i of a chunk is added to lane i mod 8, and the lanes meet in the tree. They go by value, eight
 // terms at a time, so that they stay in registers.
-ghost use Rattle.std.specs.Prelude.{◌≡◌, ◌≤◌, length};
-ghost use Rattle.refusals.specs.Said.{said_by};
+ghost use Rattle.std.specs.Prelude.{◌≡◌, ◌≤◌, ◌<◌, ◌+◌, ◌^◌, ℕ, length, Float};
 ghost use Rattle.sums_lanes.specs.Lanes.{lanes_from, chunk_sum, products, values};
 ghost use Rattle.sums_lanes.specs.Says.{chunk_says};
 
-use refusals::Answer;
+use refusals::Refusal;
 use sums_tree::tree8;
 
-// Eight products at most, one for each lane. Where it is handed eight it is inlined as a loop of that length, which two
-// vectors hold.
-fn eight_products(l: [f32; 8], x: &[f32], w: &[f32]) -> [f32; 8]
-    requires { (length x.now ≤ 8) × (length x.now ≤ length w.now) }
-    ensures { result ≡ lanes_from l (products x.now w.now) (length x.now) }
+// Eight terms at most, from term s on, one for each lane: `term` gives each by its place. Where it is asked for eight it
+// is inlined as a loop of that length, which two vectors hold.
+fn eight_terms<F: Fn(usize) -> f32>(l: [f32; 8], s: usize, count: usize, term: &F) -> [f32; 8]
+    ghost p: { ℕ → Float }
+    requires few { (count ≤ 8) × (s + count < 2 ^ 64) }
+    requires callable { (i : ℕ) → i < s + count → F.pre term.now i }
+    requires means { (i : ℕ) (y : Float) → i < s + count → F.post term.now i y → y ≡ p i }
+    ensures { result ≡ lanes_from l (λ i. p (s + i)) count }
 {
     let mut out = l;
-    let mut i: usize = 0;
-    while i < x.len() {
-        out[i] = out[i] + x[i] * w[i];
-        i += 1;
+    for i in 0..count {
+        out[i] = out[i] + term(s + i);
     }
     out
 }
 
-// The lanes `l` after the products of x and w, the first of which is for lane 0. Where eights are all there is, the
-// lanes stay in registers to the end.
+// The lanes `l` after n terms, the first of which is for lane 0. Where eights are all there is, the lanes stay in
+// registers to the end.
+fn add_terms<F: Fn(usize) -> f32>(l: [f32; 8], n: usize, term: &F) -> [f32; 8]
+    ghost p: { ℕ → Float }
+    requires callable { (i : ℕ) → i < n → F.pre term.now i }
+    requires means { (i : ℕ) (y : Float) → i < n → F.post term.now i y → y ≡ p i }
+    ensures { result ≡ lanes_from l p n }
+{
+    let mut out = l;
+    for b in 0..n / 8 {
+        let next = eight_terms(out, 8 * b, 8, term);
+        out = next;
+    }
+    let rest = n % 8;
+    if rest == 0 {
+        return out;
+    }
+    eight_terms(out, n - rest, rest, term)
+}
+
+// The lanes `l` after the products of x and w.
 pub fn add_products(l: [f32; 8], x: &[f32], w: &[f32]) -> [f32; 8]
     requires { length x.now ≤ length w.now }
     ensures { result ≡ lanes_from l (products x.now w.now) (length x.now) }
 {
-    let n = x.len();
-    let mut out = l;
-    let mut s: usize = 0;
-    while n - s >= 8 {
-        let e = s + 8;
-        let next = eight_products(out, &x[s..e], &w[s..e]);
-        out = next;
-        s = e;
-    }
-    if s == n {
-        return out;
-    }
-    eight_products(out, &x[s..], &w[s..])
+    add_terms(l, x.len(), &|i| x[i] * w[i])
 }
 
 // The dot of one chunk, all of x.
@@ -53,52 +60,22 @@ pub fn chunk_dot(x: &[f32], w: &[f32]) -> f32
 }
 
 // The dot of all of x as one chunk. Refuses 6 and 3, in this order.
-pub fn canonical_chunk(x: &[f32], w: &[f32]) -> Answer
-    ensures { said_by result ≡ chunk_says x.now w.now }
+pub fn canonical_chunk(x: &[f32], w: &[f32]) -> Result<f32, Refusal>
+    ensures { result ≡ chunk_says x.now w.now }
 {
     let n = x.len();
     if n > refusals::MOST_FLOATS {
-        return Answer::Refused(refusals::TOO_LARGE);
+        return Err(Refusal::TooLarge);
     }
     if w.len() < n {
-        return Answer::Refused(refusals::WEIGHTS_SHORT);
+        return Err(Refusal::WeightsShort);
     }
-    Answer::Value(chunk_dot(x, w))
-}
-
-// Eight values at most, one for each lane: `eight_products` without weights.
-fn eight_values(l: [f32; 8], x: &[f32]) -> [f32; 8]
-    requires { length x.now ≤ 8 }
-    ensures { result ≡ lanes_from l (values x.now) (length x.now) }
-{
-    let mut out = l;
-    let mut i: usize = 0;
-    while i < x.len() {
-        out[i] = out[i] + x[i];
-        i += 1;
-    }
-    out
-}
-
-// The lanes `l` after the values of x, the first of which is for lane 0.
-fn add_values(l: [f32; 8], x: &[f32]) -> [f32; 8]
-    ensures { result ≡ lanes_from l (values x.now) (length x.now) }
-{
-    let n = x.len();
-    let mut out = l;
-    let mut s: usize = 0;
-    while n - s >= 8 {
-        let e = s + 8;
-        let next = eight_values(out, &x[s..e]);
-        out = next;
-        s = e;
-    }
-    eight_values(out, &x[s..])
+    Ok(chunk_dot(x, w))
 }
 
 // The sum of one chunk, all of x.
 pub fn chunk_total(x: &[f32]) -> f32
     ensures { result ≡ chunk_sum (values x.now) (length x.now) }
 {
-    tree8(add_values([0.0f32; 8], x))
+    tree8(add_terms([0.0f32; 8], x.len(), &|i| x[i]))
 }

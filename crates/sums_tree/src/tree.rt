@@ -10,10 +10,8 @@ fn round(part: &mut [f32], len: usize) -> usize
         ≡ pair_up (take len part.old) ++ drop ((len + 1) / 2) part.old }
 {
     let pairs = len / 2;
-    let mut t: usize = 0;
-    while t < pairs {
+    for t in 0..pairs {
         part[t] = part[2 * t] + part[2 * t + 1];
-        t += 1;
     }
     if 2 * pairs < len {
         part[pairs] = part[2 * pairs];
@@ -38,6 +36,7 @@ pub fn canonical_combine(part: &mut [f32]) -> f32
 }
 
 // The tree over eight lanes, written out: no loop stands between a chunk's lanes and its sum.
+#[tactic(auto, using(crate::proofs::TreeLaws::tree_eight))]
 pub fn tree8(l: [f32; 8]) -> f32
     ensures { result ≡ tree l }
 {

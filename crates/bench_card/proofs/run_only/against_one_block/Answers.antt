@@ -7,4 +7,4 @@ use Rattle.bench_card.proofs.run_only.against_one_block.Goals as goal
 
 pub returns : goal.returns
 unfolding block_of_ones
-returns c = c.same_answer.ensures ∙ ap (λ (t : Said Float). same_answer t c.args.number c.args.sum) c.canonical_dot_q4k_fused.ensures
+returns c = c.same_answer.ensures ∙ ap (λ (t : Said Float). same_answer t c.args.number c.args.sum) (rw c.copy_from_slice.ensures.after at c.canonical_dot_q4k_fused.ensures)

@@ -1,19 +1,16 @@
--- `rows::quantizes` meets its contract. Assumes nothing.
-use mathlib.Core.Path.{ap, ◌∙◌}
-use mathlib.Core.List.{[], ◌∷◌}
-use lib.Ieee.{Float, binary32, of_bits}
-use Rattle.numbers.specs.Steps.{nought}
-use Rattle.dots_activation.specs.Blocks.{block_said, block_says}
+-- `rows::quantizes` meets its contract: a refusal makes no block. Assumes nothing.
+use mathlib.Core.Path.{◌∙◌}
+use Rattle.bench_rows.specs.Card.{same_numbers}
 use Rattle.bench_rows.proofs.Judged.{quantised}
 use Rattle.bench_rows.proofs.rows.quantizes.Goals as goal
 
+pub returns-in_default : goal.returns-in_default
+unfolding same_numbers
+returns-in_default c =
+    let a = c.args in
+    rw c.in_default.is at (quantised a.x a.y a.inverse a.a a.b a.c _ (rw (c.of_bits.ensures, c.of_bits-2.ensures) at c.quantize_block_q8.ensures))
+
 pub returns : goal.returns
 returns c =
-    let q = c in
-    let y = q in
-    let x = y in
-    let a = x.args in
-    let e = q.quantize_block_q8-answer.ensures.1
-    ∙ ap (λ (v : Float). block_said (block_says (v ∷ y.of_bits-2.result ∷ nought ∷ []))) x.of_bits.ensures
-    ∙ ap (λ (v : Float). block_said (block_says (of_bits binary32 a.x ∷ v ∷ nought ∷ []))) y.of_bits-2.ensures in
-    c.block_is.ensures ∙ quantised a.x a.y a.inverse a.a a.b a.c q.quantize_block_q8-answer.result.block e
+    let a = c.args in
+    c.block_is.ensures ∙ (rw c.in-Ok.is at (quantised a.x a.y a.inverse a.a a.b a.c _ (rw (c.of_bits.ensures, c.of_bits-2.ensures) at c.quantize_block_q8.ensures)))

@@ -3,8 +3,8 @@ use mathlib.Core.Path.{sym, ap}
 use Prim.Native.Nat.{◌*◌, ◌/◌}
 use lib.ListN.{length}
 use borrow.Author.Tests.{lt-ltb, le-ltb, eq-eqb, ne_eqb}
-use Rattle.refusals.specs.Said.{value}
 use Rattle.refusals.specs.Refusals.{given}
+use Rattle.std.proofs.Common.{Ok}
 use Rattle.layouts.specs.declared.format.Format.TheVariants.{OfK}
 use Rattle.layouts.proofs.Sizes.{sizes, values_fit}
 use Rattle.dots_fused.specs.Says.{fused_says}
@@ -19,9 +19,7 @@ nonzero_div-found c = omega (arith, sizes (OfK c.args.format), c.block_bytes-siz
 
 pub overflow_mul-found : goal.overflow_mul-found
 overflow_mul-found c =
-    let b = c in
-    let t = b in
-    record { fits = values_fit t.args.format b.block_bytes-size.result (length t.args.w.now) b.block_bytes-size.ensures (omega arith) }
+    record { fits = values_fit c.args.format c.block_bytes-size.result (length c.args.w.now) c.block_bytes-size.ensures (omega arith) }
 
 pub returns-then-n-gt-MOST_IN : goal.returns-then-n-gt-MOST_IN
 unfolding fused_says given
@@ -49,15 +47,13 @@ returns-then-n-eq0 c =
 pub returns-then-found-n : goal.returns-then-found-n
 unfolding fused_says given
 returns-then-found-n c =
-    let i = c in
-    let b = i in
-    let a = b.args in
+    let a = c.args in
     simp (
-      sym b.block_bytes-size.ensures,
-      le-ltb _ _ i.if-n-gt-MOST_IN.false,
-      eq-eqb _ _ i.if-over-ne0.false,
-      ne_eqb _ _ i.if-n-eq0.false,
-      lt-ltb (length a.w.now / b.block_bytes-size.result * 256) a.n (omega arith),
+      sym c.block_bytes-size.ensures,
+      le-ltb _ _ c.if-n-gt-MOST_IN.false,
+      eq-eqb _ _ c.if-over-ne0.false,
+      ne_eqb _ _ c.if-n-eq0.false,
+      lt-ltb (length a.w.now / c.block_bytes-size.result * 256) a.n (omega arith),
       c.blocks_short.ensures,
       c.blocks_in.ensures,
     )
@@ -88,4 +84,4 @@ returns c =
       le-ltb _ _ c.if-found-n.false,
       le-ltb _ _ c.if-x-n.false,
     )
-    (ap value c.row_dot.ensures)
+    (ap Ok c.row_dot.ensures)

@@ -1,12 +1,6 @@
--- `dot::row_dot` meets its contract. Assumes nothing.
-use Prim.Native.Nat.{◌-◌}
-use Rattle.sums.specs.Rows.{chunks_in}
-use Rattle.sums.proofs.RowLaws.{Chunking}
+-- `dot::row_dot` meets its contract: the terms are those of the readings and the packed weights. Assumes nothing.
 use Rattle.dots_fused_block.specs.Terms.{terms}
 use Rattle.dots_fused.proofs.dot.row_dot.Given as goal
 
-abbrev pub invariant-loop-c : goal.invariant-loop-c
-invariant-loop-c l = Chunking (terms l.format l.x l.w) l.n l.initial.sums l.sums l.c
-
-abbrev pub decreases-loop-c : goal.decreases-loop-c
-decreases-loop-c l = chunks_in l.n - l.c
+abbrev pub ghost-meet_chunks : goal.ghost-meet_chunks
+ghost-meet_chunks a = terms a.chunk.0 a.chunk.1.now a.chunk.2.now

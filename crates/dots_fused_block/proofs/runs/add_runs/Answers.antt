@@ -13,16 +13,13 @@ loop-e-init c = (omega arith, lanes_none _ _)
 
 pub loop-e-preserved : goal.loop-e-preserved
 loop-e-preserved c =
-    let b = c in
-    let s = b.scales_q6k-scales in
-    let t = b in
-    let a = t.args in
-    let e = b.loop-e.e in
-    grown_more a.l b.loop-e.out _ (block_terms Q6K a.x.now a.block.now (wholes a.q.now)) _ 16 16 e (omega arith) (omega arith) (omega arith)
-    (λ i h. run_terms_lem a.x.now a.block.now e (16 * e + 16 - 16 * e) i s.result a.q.now (omega arith) (omega arith) (omega arith) s.ensures) c.add_run-next.ensures b.loop-e.invariant
+    let s = c.scales_q6k-scales in
+    let a = c.args in
+    let e = c.loop-e.e in
+    grown_more a.l c.loop-e.out _ (block_terms Q6K a.x.now a.block.now (wholes a.q.now)) _ 16 16 e (omega arith) (omega arith) (omega arith)
+    (λ i h. run_terms_lem a.x.now a.block.now e (16 * e + 16 - 16 * e) i s.result a.q.now (omega arith) (omega arith) (omega arith) s.ensures) c.add_run-next.ensures c.loop-e.invariant
 
 pub returns : goal.returns
 returns c =
-    let b = c in
-    let a = b.args in
-    grown_done a.l b.loop-e.out (block_terms Q6K a.x.now a.block.now (wholes a.q.now)) 16 16 b.loop-e.e (omega arith) b.loop-e.invariant
+    let a = c.args in
+    grown_done a.l c.loop-e.out (block_terms Q6K a.x.now a.block.now (wholes a.q.now)) 16 16 c.loop-e.e (omega arith) c.loop-e.invariant

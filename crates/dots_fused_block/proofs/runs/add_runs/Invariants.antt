@@ -1,5 +1,5 @@
 -- `runs::add_runs` meets its contract: in turn e the terms of run e are added. Assumes nothing.
-use Prim.Native.Nat.{ℕ, ◌-◌}
+use Prim.Native.Nat.{ℕ}
 use mathlib.Core.List.{List}
 use lib.IntN.{ℤ, pos}
 use lib.ListN.{get_or}
@@ -13,6 +13,3 @@ wholes q i = get_or q i (pos 0)
 
 abbrev pub invariant-loop-e : goal.invariant-loop-e
 invariant-loop-e l = Grown l.initial.out (block_terms Q6K l.x l.block (wholes l.q)) 16 16 l.out l.e
-
-abbrev pub decreases-loop-e : goal.decreases-loop-e
-decreases-loop-e l = 16 - l.e

@@ -16,16 +16,14 @@ loop-i-init c = let a = c.args in adding_start a.l (run_terms a.x.now a.q.now a.
 
 pub loop-i-preserved : goal.loop-i-preserved
 loop-i-preserved c =
-    let b = c in
-    let a = b.args in
-    let out = b.loop-i.out in
-    let i = b.loop-i.i in
+    let a = c.args in
+    let out = c.loop-i.out in
+    let i = c.loop-i.i in
     subst (λ (v : Float). Adding a.l (run_terms a.x.now a.q.now a.d) 8 (set out i (add binary32 (get_or out i nan) (mul binary32 (get_or a.x.now i nan) (mul binary32 a.d v)))) (i + 1))
     (sym (c.to_f32.ensures ∙ ap (of_int binary32) (read_is w8 _ (search rules))))
-    (adding_more a.l (run_terms a.x.now a.q.now a.d) 8 out i (omega arith) (omega arith) b.loop-i.invariant)
+    (adding_more a.l (run_terms a.x.now a.q.now a.d) 8 out i (omega arith) (omega arith) c.loop-i.invariant)
 
 pub returns : goal.returns
 returns c =
-    let b = c in
-    let a = b.args in
-    adding_done a.l (run_terms a.x.now a.q.now a.d) 8 b.loop-i.out b.loop-i.i (omega arith) b.loop-i.invariant
+    let a = c.args in
+    adding_done a.l (run_terms a.x.now a.q.now a.d) 8 c.loop-i.out c.loop-i.i (omega arith) c.loop-i.invariant

@@ -1,5 +1,4 @@
 -- `sub_blocks::add_sub_block` meets its contract: in turn e the eight terms from 8 e on are added. Assumes nothing.
-use mathlib.Core.Path.{sym, ◌∙◌}
 use Prim.Native.Nat.{◌+◌, ◌-◌, ◌*◌}
 use Rattle.sums_lanes.proofs.LaneLaws.{lanes_none}
 use Rattle.dots_fused_block.specs.Inner.{sub_block_terms}
@@ -12,19 +11,14 @@ loop-e-init c = (c.requires.0, (omega arith, lanes_none _ _))
 
 pub loop-e-preserved : goal.loop-e-preserved
 loop-e-preserved c =
-    let b = c in
-    let a = b.args in
-    let e = b.loop-e.e in (
+    let a = c.args in
+    let e = c.loop-e.e in (
       omega arith,
-      grown_more a.l.now b.loop-e.l _ (sub_block_terms a.x.now a.q.now a.d a.m) _ 8 4 e (omega arith) (omega arith) (omega arith)
-          (λ i h. sub_block_part a.x.now a.q.now a.d a.m (8 * e) (8 * e + 8 - 8 * e) i (omega arith)) c.eight_terms.ensures b.loop-e.invariant.1,
+      grown_more a.l.now c.loop-e.l _ (sub_block_terms a.x.now a.q.now a.d a.m) _ 8 4 e (omega arith) (omega arith) (omega arith)
+          (λ i h. sub_block_part a.x.now a.q.now a.d a.m (8 * e) (8 * e + 8 - 8 * e) i (omega arith)) c.eight_terms.ensures c.loop-e.invariant.1,
     )
-
-pub shape_of-l : goal.shape_of-l
-shape_of-l c = c.loop-e.invariant.0 ∙ sym c.requires.0
 
 pub returns : goal.returns
 returns c =
-    let b = c in
-    let a = b.args in
-    grown_done a.l.now b.loop-e.l (sub_block_terms a.x.now a.q.now a.d a.m) 8 4 b.loop-e.e (omega arith) b.loop-e.invariant.1
+    let a = c.args in
+    grown_done a.l.now c.loop-e.l (sub_block_terms a.x.now a.q.now a.d a.m) 8 4 c.loop-e.e (omega arith) c.loop-e.invariant.1

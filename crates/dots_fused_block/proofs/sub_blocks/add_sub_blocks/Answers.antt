@@ -1,5 +1,5 @@
 -- `sub_blocks::add_sub_blocks` meets its contract: in turn j the terms of sub-block j are added. Assumes nothing.
-use mathlib.Core.Path.{refl, sym, ◌∙◌}
+use mathlib.Core.Path.{refl}
 use Prim.Native.Nat.{◌+◌, ◌-◌, ◌/◌}
 use lib.ListN.{length}
 use Rattle.layouts.specs.declared.format.FormatK.TheVariants.{Q4K}
@@ -15,23 +15,17 @@ loop-j-init c = (refl, c.requires.0, (omega arith, lanes_none _ _))
 
 pub loop-j-preserved : goal.loop-j-preserved
 loop-j-preserved c =
-    let d = c in
-    let b = d in
-    let s = b.scales_and_minimums-both in
-    let a = b.args in
-    let at = b.loop-j.at in
-    let j = b.loop-j.j in (
+    let s = c.scales_and_minimums-both in
+    let a = c.args in
+    let at = c.loop-j.at in
+    let j = c.loop-j.j in (
       omega arith,
       omega arith,
-      grown_more a.l.now b.loop-j.l _ (block_terms Q4K a.x.now a.block.now (wholes a.q.now)) _ 32 8 j (omega arith) (omega arith) (omega arith)
-          (λ i h. sub_block_terms_lem a.x.now a.block.now at j (at + length a.q.now / 8 - at) i s.result a.q.now b.loop-j.invariant.0 (omega arith) (omega arith) (omega arith) s.ensures) d.add_sub_block.ensures b.loop-j.invariant.2,
+      grown_more a.l.now c.loop-j.l _ (block_terms Q4K a.x.now a.block.now (wholes a.q.now)) _ 32 8 j (omega arith) (omega arith) (omega arith)
+          (λ i h. sub_block_terms_lem a.x.now a.block.now at j (at + length a.q.now / 8 - at) i s.result a.q.now c.loop-j.invariant.0 (omega arith) (omega arith) (omega arith) s.ensures) c.add_sub_block.ensures c.loop-j.invariant.2,
     )
-
-pub shape_of-l : goal.shape_of-l
-shape_of-l c = c.loop-j.invariant.1 ∙ sym c.requires.0
 
 pub returns : goal.returns
 returns c =
-    let b = c in
-    let a = b.args in
-    grown_done a.l.now b.loop-j.l (block_terms Q4K a.x.now a.block.now (wholes a.q.now)) 32 8 b.loop-j.j (omega arith) b.loop-j.invariant.2
+    let a = c.args in
+    grown_done a.l.now c.loop-j.l (block_terms Q4K a.x.now a.block.now (wholes a.q.now)) 32 8 c.loop-j.j (omega arith) c.loop-j.invariant.2

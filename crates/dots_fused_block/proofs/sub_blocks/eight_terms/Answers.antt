@@ -1,5 +1,4 @@
 -- `sub_blocks::eight_terms` meets its contract. Assumes nothing.
-use mathlib.Core.Path.{sym, ◌∙◌}
 use Rattle.sums_lanes.proofs.LaneLaws.{adding_start, adding_more, adding_done}
 use Rattle.dots_fused_block.specs.Inner.{sub_block_terms}
 use native.Mathlib.Omega.{arith}
@@ -10,15 +9,10 @@ loop-i-init c = let a = c.args in adding_start a.l.now (sub_block_terms a.x.now 
 
 pub loop-i-preserved : goal.loop-i-preserved
 loop-i-preserved c =
-    let b = c in
-    let a = b.args in
-    adding_more a.l.now (sub_block_terms a.x.now a.q.now a.d a.m) 8 b.loop-i.l b.loop-i.i (omega arith) (omega arith) b.loop-i.invariant
-
-pub shape_of-l : goal.shape_of-l
-shape_of-l c = c.loop-i.invariant.1 ∙ sym c.requires.0
+    let a = c.args in
+    adding_more a.l.now (sub_block_terms a.x.now a.q.now a.d a.m) 8 c.loop-i.l c.loop-i.i (omega arith) (omega arith) c.loop-i.invariant
 
 pub returns : goal.returns
 returns c =
-    let b = c in
-    let a = b.args in
-    adding_done a.l.now (sub_block_terms a.x.now a.q.now a.d a.m) 8 b.loop-i.l b.loop-i.i (omega arith) b.loop-i.invariant
+    let a = c.args in
+    adding_done a.l.now (sub_block_terms a.x.now a.q.now a.d a.m) 8 c.loop-i.l c.loop-i.i (omega arith) c.loop-i.invariant

@@ -1,8 +1,8 @@
 -- `dot::canonical_dot_pub` meets its contract. Assumes nothing.
 use mathlib.Core.Path.{ap}
 use borrow.Author.Tests.{lt-ltb, le-ltb, eq-eqb, ne_eqb}
-use Rattle.refusals.specs.Said.{value}
 use Rattle.refusals.specs.Refusals.{given}
+use Rattle.std.proofs.Common.{Ok}
 use Rattle.sums.specs.Says.{dot_says}
 use Rattle.sums.proofs.dot.canonical_dot_pub.Goals as goal
 
@@ -24,4 +24,4 @@ returns-then-x-n c = simp (le-ltb _ _ c.if-n-gt-MOST_IN.false, ne_eqb _ _ c.if-n
 
 pub returns : goal.returns
 unfolding dot_says given
-returns c = simp (le-ltb _ _ c.if-n-gt-MOST_IN.false, ne_eqb _ _ c.if-n-eq0.false, le-ltb _ _ c.if-w-n.false, le-ltb _ _ c.if-x-n.false) (ap value c.row_dot.ensures)
+returns c = simp (le-ltb _ _ c.if-n-gt-MOST_IN.false, ne_eqb _ _ c.if-n-eq0.false, le-ltb _ _ c.if-w-n.false, le-ltb _ _ c.if-x-n.false) (ap Ok c.row_dot.ensures)

@@ -1,12 +1,6 @@
--- `dot::row_dot` meets its contract. Assumes nothing.
-use Prim.Native.Nat.{◌-◌}
+-- `dot::row_dot` meets its contract: the terms are products. Assumes nothing.
 use Rattle.sums_lanes.specs.Lanes.{products}
-use Rattle.sums.specs.Rows.{chunks_in}
-use Rattle.sums.proofs.RowLaws.{Chunking}
 use Rattle.sums.proofs.dot.row_dot.Given as goal
 
-abbrev pub invariant-loop-c : goal.invariant-loop-c
-invariant-loop-c l = Chunking (products l.x l.w) l.n l.initial.sums l.sums l.c
-
-abbrev pub decreases-loop-c : goal.decreases-loop-c
-decreases-loop-c l = chunks_in l.n - l.c
+abbrev pub ghost-meet_chunks : goal.ghost-meet_chunks
+ghost-meet_chunks a = products a.chunk.0.now a.chunk.1.now

@@ -1,8 +1,8 @@
 -- `lanes::canonical_chunk` meets its contract. Assumes nothing.
 use mathlib.Core.Path.{ap}
 use borrow.Author.Tests.{lt-ltb, le-ltb}
-use Rattle.refusals.specs.Said.{value}
 use Rattle.refusals.specs.Refusals.{given}
+use Rattle.std.proofs.Common.{Ok}
 use Rattle.sums_lanes.specs.Says.{chunk_says}
 use Rattle.sums_lanes.proofs.lanes.canonical_chunk.Goals as goal
 
@@ -16,4 +16,4 @@ returns-then-w-n c = simp (le-ltb _ _ c.if-n-gt-MOST_FLOATS.false, lt-ltb _ _ c.
 
 pub returns : goal.returns
 unfolding chunk_says given
-returns c = simp (le-ltb _ _ c.if-n-gt-MOST_FLOATS.false, le-ltb _ _ c.if-w-n.false) (ap value c.chunk_dot.ensures)
+returns c = simp (le-ltb _ _ c.if-n-gt-MOST_FLOATS.false, le-ltb _ _ c.if-w-n.false) (ap Ok c.chunk_dot.ensures)

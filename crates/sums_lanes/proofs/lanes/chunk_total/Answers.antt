@@ -6,4 +6,4 @@ use Rattle.sums_lanes.proofs.lanes.chunk_total.Goals as goal
 
 pub returns : goal.returns
 unfolding chunk_sum lanes
-returns c = c.tree8.ensures ∙ ap tree c.add_values.ensures
+returns c = c.tree8.ensures ∙ ap tree c.add_terms.ensures

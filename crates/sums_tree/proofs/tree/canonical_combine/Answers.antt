@@ -16,21 +16,16 @@ loop-len-smaller c = omega (arith, c.round-len.ensures.value)
 pub loop-len-preserved : goal.loop-len-preserved
 loop-len-preserved c =
     let r = c.round-len in
-    let b = c in
-    let l = b.loop-len in
-    let d = b.args.part.now in (
+    let l = c.loop-len in
+    let d = c.args.part.now in (
       omega (arith, r.ensures.value),
       omega (arith, r.ensures.value, r.auto.part),
       r.auto.part ∙ l.invariant.2,
       rw r.ensures.value (underway_turn d l.part r.new.part l.len l.invariant.1 (omega arith) r.ensures.part_after l.invariant.3),
     )
 
-pub shape_of-part : goal.shape_of-part
-shape_of-part c = c.loop-len.invariant.2
-
 pub returns : goal.returns
 returns c =
-    let b = c in
-    let l = b.loop-len in
+    let l = c.loop-len in
     let e : l.len ≡ 1 = omega arith in
-    underway_end b.args.part.now l.part (omega arith) (rw e at l.invariant.3)
+    underway_end c.args.part.now l.part (omega arith) (rw e at l.invariant.3)
