@@ -1,14 +1,13 @@
 -- Document 01, "Readings to small integers", and document 02, P9: the activation block. Definitions only.
-use Rattle.std.specs.Prelude.{ℕ, ◌+◌, ◌*◌, ◌<◌, min, Bool, true, false, cond, List, ltb, eqb, ℤ, pos, get_or, length, replicate, Float}
+use Rattle.std.specs.Prelude.{ℕ, ◌+◌, ◌*◌, ◌<◌, min, Bool, true, false, cond, List, ltb, eqb, ℤ, pos, get_or, length, Float, Ok}
 use Rattle.std.specs.Float.{nan, binary32}
 use Rattle.std.specs.Float.Ieee.{mul}
-use Rattle.refusals.specs.Said.{Said, value, refused, no, check_says}
-use Rattle.refusals.specs.Refusals.{given, or_else}
+use Rattle.refusals.specs.Said.{Said}
+use Rattle.refusals.specs.Refusals.{given}
+use Rattle.refusals.specs.declared.refusal.Refusal.TheVariants.{ReadingsShort}
 use Rattle.memory.specs.Lists.{table, every}
-use Rattle.numbers.specs.Steps.{nought}
 use Rattle.readings.specs.Readings.{scale_q8, inverse, quant_q8}
 use Rattle.dots_activation.specs.declared.block.Q8Block.{Q8Block}
-use Rattle.dots_activation.specs.declared.block.Quantized.{Quantized}
 use Rattle.dots_activation.specs.Whole.{elem, sum_ℤ, eq_z, Within}
 
 -- each reading times the inverse, as a Q8 quant; quants past the readings are 0
@@ -42,16 +41,7 @@ block_of xs = block_with (scale_q8 xs) (quants_of xs) (length xs)
 
 -- `quantize_block_q8`: 4 for more than 256 readings; and otherwise the block
 unfoldable pub block_says : List Float → Said Q8Block
-block_says xs = given (no 4) (ltb 256 (length xs)) (value (block_of xs))
-
--- what its answer says
-abbrev pub quantized_says : Quantized → Said Q8Block
-quantized_says r = or_else (check_says r.checked) (value r.block)
-
--- the block that is answered: beside a refusal it has nothing but zeros
-abbrev pub block_said : Said Q8Block → Q8Block
-block_said (value b) = b
-block_said (refused why) = block_in nought (replicate 256 (pos 0)) (replicate 8 (pos 0)) 0
+block_says xs = given ReadingsShort (ltb 256 (length xs)) (Ok (block_of xs))
 
 -- place i is below n, or its quant is 0
 abbrev pub past_is_zero : List ℤ → ℕ → ℕ → Bool

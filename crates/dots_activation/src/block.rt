@@ -5,9 +5,9 @@ ghost use Rattle.memory.specs.Lists.{table};
 ghost use Rattle.dots_activation.specs.Whole.{elem, Within};
 ghost use Rattle.dots_activation.specs.Inner.{pair_of, PairsWithin, sum_of_pairs};
 ghost use Rattle.dots_activation.specs.Blocks.{quant_at, sums_of, zeros_past, count_serves, sums_right, SmallSums};
-ghost use Rattle.dots_activation.specs.Blocks.{block_with, block_of, block_says, quantized_says, block_said};
+ghost use Rattle.dots_activation.specs.Blocks.{block_with, block_of, block_says};
 
-use refusals::Check;
+use refusals::Refusal;
 
 // One float scale, 256 signed quants, eight sums of 32, and how many readings it was made of. It is made by
 // `block_with` and read by the block dots.
@@ -17,14 +17,6 @@ pub struct Q8Block {
     pub qs: [i8; 256],
     pub bsums: [i32; 8],
     pub count: usize,
-}
-
-// What the quantizer of a block answers: the block, or why it says no beside a block of zeros, since an enum cannot
-// hold arrays.
-#[derive(Clone, Copy)]
-pub struct Quantized {
-    pub checked: Check,
-    pub block: Q8Block,
 }
 
 // The sum of quants i and 16 + i, in 16 bits.
@@ -99,8 +91,8 @@ fn zeros_past(qs: &[i8; 256], n: usize) -> bool
     ensures { result ≡ zeros_past qs.now n }
 {
     let mut zeros = true;
-    for i in n..256usize {
-        if qs[i] != 0 {
+    for &q in &qs[n..] {
+        if q != 0 {
             zeros = false;
         }
     }
@@ -108,11 +100,11 @@ fn zeros_past(qs: &[i8; 256], n: usize) -> bool
 }
 
 // Whether a block of `count` readings serves n places, n above 256 taken as 256: of a full block no quant is looked at.
+#[tactic(auto, unfolding(crate::specs::Blocks::count_serves))]
 pub fn count_serves(qs: &[i8; 256], count: usize, n: usize) -> bool
     ensures { result ≡ count_serves qs.now count n }
 {
-    let places = if n > 256 { 256 } else { n };
-    if places != count {
+    if n.min(256) != count {
         return false;
     }
     zeros_past(qs, count)
@@ -144,6 +136,7 @@ fn block_with(d: f32, qs: [i8; 256], count: usize) -> Q8Block
 }
 
 // The block of at most 256 readings.
+#[tactic(auto, unfolding(crate::specs::Blocks::block_of))]
 pub fn quantized_block(x: &[f32]) -> Q8Block
     requires { length x.now ≤ 256 }
     ensures { result ≡ block_of x.now }
@@ -153,25 +146,12 @@ pub fn quantized_block(x: &[f32]) -> Q8Block
 }
 
 // The block of the readings. Refuses 4 for more than 256 of them.
-pub fn quantize_block_q8(x: &[f32]) -> Quantized
-    ensures { (quantized_says result ≡ block_says x.now)
-        × (result.block ≡ block_said (block_says x.now)) }
+#[tactic(auto, unfolding(crate::specs::Blocks::block_says, refusals::specs::Refusals::given))]
+pub fn quantize_block_q8(x: &[f32]) -> Result<Q8Block, Refusal>
+    ensures { result ≡ block_says x.now }
 {
     if x.len() > 256 {
-        let block = Q8Block {
-            d: 0.0,
-            qs: [0i8; 256],
-            bsums: [0i32; 8],
-            count: 0,
-        };
-        return Quantized {
-            checked: Check::Refused(refusals::READINGS_SHORT),
-            block,
-        };
+        return Err(Refusal::ReadingsShort);
     }
-    let block = quantized_block(x);
-    Quantized {
-        checked: Check::Passed,
-        block,
-    }
+    Ok(quantized_block(x))
 }

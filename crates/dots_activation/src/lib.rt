@@ -3,4 +3,4 @@
 
 mod block;
 
-pub use block::{Q8Block, Quantized, count_serves, quantize_block_q8, quantized_block, sums_right};
+pub use block::{Q8Block, count_serves, quantize_block_q8, quantized_block, sums_right};

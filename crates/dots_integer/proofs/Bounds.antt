@@ -25,6 +25,7 @@ use Rattle.layouts.specs.declared.format.FormatK.TheVariants.{Q4K, Q5K, Q6K}
 use Rattle.layouts.proofs.Quants.{nibble_small}
 use Rattle.k_quants.proofs.LaidOut.{Laid}
 use Rattle.dots_activation.specs.Whole.{elem, eq_z, Within}
+use Rattle.dots_activation.specs.declared.block.Q8Block.{Q8Block}
 use Rattle.dots_activation.specs.Blocks.{quant_at, quants_of, sum_of_32, right_at, block_of, count_serves, sums_right, SmallSums}
 use Rattle.dots_activation.proofs.Magnitudes.{within, pos_within, mul_within, fits_within}
 use Rattle.dots_activation.proofs.Ranges.{sum_within}
@@ -94,6 +95,14 @@ module _ (xs : List Float) where
   pub count_right : length xs ≤ 256 → count_serves (block_of xs).qs (block_of xs).count (length xs) ≡ true
   unfolding block_of
   count_right h = serves (quants_of xs) (length xs) h quants_past
+
+-- a block that a call made of readings
+module _ {b : Q8Block} (xs : List Float) (e : b ≡ block_of xs) where
+  pub made_long : (length b.qs ≡ 256) × (length b.bsums ≡ 8)
+  made_long = rw e (block_long xs)
+
+  pub made_small : SmallSums b.bsums
+  made_small = rw e (small_sums xs)
 
 -- ---- a packed block's scales and quants
 

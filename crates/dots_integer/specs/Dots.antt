@@ -1,10 +1,11 @@
 -- Document 01, "Readings to small integers", and document 02, P9: the dot of a packed block and an activation block.
 -- Definitions only.
-use Rattle.std.specs.Prelude.{ℕ, min, Bool, true, not, cond, List, ltb, ℤ, length, take, Float}
+use Rattle.std.specs.Prelude.{ℕ, min, Bool, true, not, cond, List, ltb, ℤ, length, take, Float, Ok}
 use Rattle.std.specs.Float.{binary32}
 use Rattle.std.specs.Float.Ieee.{mul, sub, of_int}
-use Rattle.refusals.specs.Said.{Said, value, no}
+use Rattle.refusals.specs.Said.{Said}
 use Rattle.refusals.specs.Refusals.{given}
+use Rattle.refusals.specs.declared.refusal.Refusal.TheVariants.{WrongSums, WrongCount}
 use Rattle.layouts.specs.Formats.{bytes_k, has_minimums}
 use Rattle.layouts.specs.Counts.{weights_short}
 use Rattle.layouts.specs.K.{d_of, dmin_of}
@@ -41,6 +42,6 @@ sums_serve f qs sums = cond (has_minimums f) (sums_right qs sums) true
 unfoldable pub block_dot_says : FormatK → List ℕ → Q8Block → ℕ → Said Float
 block_dot_says f w b n =
     given (weights_short f (length w) 1) (ltb (length w) (bytes_k f))
-    (given (no 15) (not (count_serves b.qs b.count n))
-    (given (no 7) (not (sums_serve f b.qs b.bsums))
-    (value (dot_with f (take (bytes_k f) w) b (min n 256)))))
+    (given WrongCount (not (count_serves b.qs b.count n))
+    (given WrongSums (not (sums_serve f b.qs b.bsums))
+    (Ok (dot_with f (take (bytes_k f) w) b (min n 256)))))

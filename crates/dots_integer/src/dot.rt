@@ -1,6 +1,5 @@
 // The dot of one packed block and one activation block.
 ghost use Rattle.std.specs.Prelude.{◌≡◌, ◌+◌, ◌≤◌, ◌<◌, true, length};
-ghost use Rattle.refusals.specs.Said.{said_by};
 ghost use Rattle.halves.specs.Binary16.{widened};
 ghost use Rattle.numbers.specs.Fields.{le16};
 ghost use Rattle.layouts.specs.Formats.{bytes_k, has_minimums};
@@ -16,7 +15,7 @@ ghost use Rattle.dots_integer.specs.Dots.{sums_serve, block_dot_says};
 use dots_activation::{Q8Block, count_serves, sums_right};
 use dots_whole::{minimum_sum, products, sum_by_runs, sum_of_products};
 use layouts::{Format, FormatK};
-use refusals::Answer;
+use refusals::Refusal;
 
 // The f16 field at i.
 fn half_at(w: &[u8], i: usize) -> f32
@@ -88,6 +87,7 @@ fn sums_serve(format: FormatK, qs: &[i8; 256], sums: &[i32; 8]) -> bool
 // The dot of the first block of w and an activation block, n above 256 taken as 256. Refuses 3, 15 and 7, in this
 // order. Past n every quant is 0 then, so that the dot over all places is the dot over those below n. The block's
 // quants and sums are lent: a block by value would be copied.
+#[tactic(auto, unfolding(crate::specs::Dots::block_dot_says, refusals::specs::Refusals::given))]
 pub fn first_dot(
     format: FormatK,
     w: &[u8],
@@ -96,42 +96,42 @@ pub fn first_dot(
     sums: &[i32; 8],
     count: usize,
     n: usize,
-) -> Answer
-    ensures { said_by result
+) -> Result<f32, Refusal>
+    ensures { result
         ≡ block_dot_says format w.now (block_in d qs.now sums.now count) n }
 {
     let size = layouts::block_bytes(Format::OfK(format));
     if w.len() < size {
-        return Answer::Refused(layouts::weights_short(format, w.len(), 1));
+        return Err(layouts::weights_short(format, w.len(), 1));
     }
     if !count_serves(qs, count, n) {
-        return Answer::Refused(refusals::WRONG_COUNT);
+        return Err(Refusal::WrongCount);
     }
     if !sums_serve(format, qs, sums) {
-        return Answer::Refused(refusals::WRONG_SUMS);
+        return Err(Refusal::WrongSums);
     }
-    Answer::Value(block_dot(format, &w[..size], d, qs, sums))
+    Ok(block_dot(format, &w[..size], d, qs, sums))
 }
 
 // The dot of a Q4_K block and an activation block. Refuses 3, 15 and 7, in this order.
-pub fn dot_q4k_q8_block(w: &[u8], xq: Q8Block, n: usize) -> Answer
-    ensures { said_by result ≡ block_dot_says FormatK.Q4K w.now xq n }
+pub fn dot_q4k_q8_block(w: &[u8], xq: Q8Block, n: usize) -> Result<f32, Refusal>
+    ensures { result ≡ block_dot_says FormatK.Q4K w.now xq n }
 {
     let sums = xq.bsums;
     first_dot(FormatK::Q4K, w, xq.d, &xq.qs, &sums, xq.count, n)
 }
 
 // The dot of a Q5_K block and an activation block. Refuses 3, 15 and 7, in this order.
-pub fn dot_q5k_q8_block(w: &[u8], xq: Q8Block, n: usize) -> Answer
-    ensures { said_by result ≡ block_dot_says FormatK.Q5K w.now xq n }
+pub fn dot_q5k_q8_block(w: &[u8], xq: Q8Block, n: usize) -> Result<f32, Refusal>
+    ensures { result ≡ block_dot_says FormatK.Q5K w.now xq n }
 {
     let sums = xq.bsums;
     first_dot(FormatK::Q5K, w, xq.d, &xq.qs, &sums, xq.count, n)
 }
 
 // The dot of a Q6_K block and an activation block. Refuses 3 and 15, in this order.
-pub fn dot_q6k_q8_block(w: &[u8], xq: Q8Block, n: usize) -> Answer
-    ensures { said_by result ≡ block_dot_says FormatK.Q6K w.now xq n }
+pub fn dot_q6k_q8_block(w: &[u8], xq: Q8Block, n: usize) -> Result<f32, Refusal>
+    ensures { result ≡ block_dot_says FormatK.Q6K w.now xq n }
 {
     let sums = xq.bsums;
     first_dot(FormatK::Q6K, w, xq.d, &xq.qs, &sums, xq.count, n)

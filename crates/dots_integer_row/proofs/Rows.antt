@@ -9,7 +9,7 @@ use lib.Ieee.{Float}
 use Rattle.refusals.specs.Sizes.{most_in}
 use Rattle.memory.specs.Lists.{table, filled, part, stretch_length, stretches_in}
 use Rattle.memory.proofs.Filled.{length_table, Filling, filling_start, filling_more}
-use Rattle.memory.proofs.Parts.{lent_part}
+use Rattle.memory.proofs.Parts.{within, lent_part}
 use Rattle.layouts.specs.declared.format.FormatK.{FormatK}
 use Rattle.layouts.specs.declared.format.Format.TheVariants.{OfK}
 use Rattle.layouts.specs.Formats.{bytes_k}
@@ -21,6 +21,10 @@ use Rattle.dots_integer.specs.Dots.{dot_with}
 use Rattle.dots_integer.proofs.Dots.{dot_below}
 use Rattle.dots_integer.proofs.Bounds.{quants_past}
 use Rattle.dots_integer_row.specs.Rows.{block_at, integer_row}
+
+-- block b lies within the row's weights
+pub lies : (f : FormatK) (w : List ℕ) (n : ℕ) {size m b : ℕ} → size ≡ bytes_k f → stretches_in 256 n * bytes_k f ≤ length w → m ≡ stretches_in 256 n → b < m → b * size + size ≤ length w
+lies f w n {size} {m} {b} e h k l = within b size m (length w) l (rw (k, e) h)
 
 module _ (f : FormatK) (x : List Float) (w : List ℕ) (n : ℕ) where
   -- the dot, over all places, of the part of the weights that is block b and the block q of the part of the readings up to e

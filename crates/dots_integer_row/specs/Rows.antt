@@ -1,8 +1,9 @@
 -- Document 01, "Readings to small integers": the integer dot of a row. Definitions only.
-use Rattle.std.specs.Prelude.{ℕ, ◌*◌, ◌%◌, not, cond, List, ltb, eqb, length, Float}
-use Rattle.refusals.specs.Said.{Said, value, no}
+use Rattle.std.specs.Prelude.{ℕ, ◌*◌, ◌%◌, not, cond, List, ltb, eqb, length, Float, Ok}
+use Rattle.refusals.specs.Said.{Said}
 use Rattle.refusals.specs.Refusals.{given}
 use Rattle.refusals.specs.Sizes.{most_in}
+use Rattle.refusals.specs.declared.refusal.Refusal.TheVariants.{NotWholeBlocks, ReadingsShort, TooLarge}
 use Rattle.memory.specs.Lists.{table, part, stretches_in, stretch_length}
 use Rattle.numbers.specs.Steps.{nought}
 use Rattle.layouts.specs.Formats.{bytes_k}
@@ -27,9 +28,9 @@ integer_row f x w n = tree (table (block_at f x w n) (stretches_in 256 n))
 -- weights than needed; fewer readings; and otherwise the row's dot
 unfoldable pub integer_says : FormatK → List Float → List ℕ → ℕ → Said Float
 integer_says f x w n =
-    given (no 6) (ltb most_in n)
-    (given (no 1) (not (eqb (length w % bytes_k f) 0))
-    (cond (eqb n 0) (value nought)
+    given TooLarge (ltb most_in n)
+    (given NotWholeBlocks (not (eqb (length w % bytes_k f) 0))
+    (cond (eqb n 0) (Ok nought)
     (given (weights_short f (length w) (stretches_in 256 n)) (ltb (length w) (stretches_in 256 n * bytes_k f))
-    (given (no 4) (ltb (length x) n)
-    (value (integer_row f x w n))))))
+    (given ReadingsShort (ltb (length x) n)
+    (Ok (integer_row f x w n))))))

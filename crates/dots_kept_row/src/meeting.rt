@@ -15,8 +15,8 @@ fn running_sum(x: &[f32]) -> f32
     ensures { result ≡ running (values x.now) (length x.now) }
 {
     let mut sum: f32 = 0.0;
-    for i in 0..x.len() {
-        sum = sum + x[i];
+    for &v in x {
+        sum = sum + v;
     }
     sum
 }

@@ -9,9 +9,10 @@ use borrow.Author.Tests.{ltb-false, eqb-true}
 use lib.Dec.{eqb, lit<}
 use lib.IntN.{ℤ, pos}
 use lib.ListN.{length, take}
-use Rattle.refusals.specs.declared.Refusal.{Refusal}
-use Rattle.refusals.specs.Said.{Said, value}
+use Rattle.refusals.specs.declared.refusal.Refusal.{Refusal}
+use Rattle.refusals.specs.Said.{Said}
 use Rattle.refusals.specs.Refusals.{given}
+use Rattle.std.proofs.Common.{Ok}
 use Rattle.memory.proofs.Every.{every_all}
 use Rattle.memory.proofs.Filled.{get_or_table}
 use Rattle.layouts.specs.Formats.{bytes_k}
@@ -80,7 +81,7 @@ pub block_dots : (f : FormatK) (orders : ℕ → List ℕ) → Rearrangements f 
 unfolding block_dot_says
 block_dots f orders each w b n full =
     let most : min n 256 ≡ 256 = omega arith in
-    rw (weights_long f orders 1 w, counted f orders each b n full, served f orders each b, most) (given_same _ _ (λ e. given_same _ _ (λ c. given_same _ _ (λ s. ap value (first (ltb-false (length w) (bytes_k f) e))))))
+    rw (weights_long f orders 1 w, counted f orders each b n full, served f orders each b, most) (given_same _ _ (λ e. given_same _ _ (λ c. given_same _ _ (λ s. ap Ok (first (ltb-false (length w) (bytes_k f) e))))))
   where
     first : bytes_k f ≤ length w → dot_with f (take (bytes_k f) (moved_weights f orders 1 w)) (moved_block f orders b) 256 ≡ dot_with f (take (bytes_k f) w) b 256
     first h =

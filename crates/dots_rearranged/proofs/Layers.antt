@@ -9,8 +9,9 @@ use lib.Arith.{digits_lt}
 use lib.ListN.{length, get_or, drop, length-take, length-drop}
 use lib.Seq.{ext_get_or}
 use lib.Ieee.{Float, nan}
-use Rattle.refusals.specs.Said.{Said, value, refused, done}
+use Rattle.refusals.specs.Said.{Said, done}
 use Rattle.refusals.specs.Refusals.{carried_out}
+use Rattle.std.proofs.Common.{Ok, Err}
 use Rattle.memory.specs.Lists.{part, stretch_length}
 use Rattle.memory.proofs.Filled.{table_ext, part_at}
 use Rattle.memory.proofs.Parts.{within}
@@ -128,8 +129,8 @@ module _ (f : FormatK) (orders : ℕ → List ℕ) (each : Rearrangements f orde
 -- what is carried out is the same where it is done
 carried_same : {M : Type 0} (said : Said (Unit {0})) (a b old : M) → (said ≡ done → a ≡ b) → carried_out said a old ≡ carried_out said b old
 unfolding carried_out
-carried_same (value tt) a b old h = rw (h refl)
-carried_same (refused why) a b old h = refl
+carried_same (Ok tt) a b old h = rw (h refl)
+carried_same (Err why) a b old h = refl
 
 pub layers : (f : FormatK) (orders : ℕ → List ℕ) → Rearrangements f orders → (m : Meeting) (s : Shape) (x : List Float) (w : List ℕ) (y : List Float) → Singles x
     → (let rows = every_row f s.in_feat orders in

@@ -10,7 +10,8 @@ use borrow.Author.Tests.{ltb-false}
 use lib.Dec.{eqb}
 use lib.ListN.{length}
 use lib.Ieee.{Float}
-use Rattle.refusals.specs.Said.{Said, value}
+use Rattle.refusals.specs.Said.{Said}
+use Rattle.std.proofs.Common.{Ok}
 use Rattle.memory.specs.Lists.{part, stretches_in, stretch_length}
 use Rattle.memory.proofs.Filled.{table_ext}
 use Rattle.numbers.specs.Steps.{nought}
@@ -61,4 +62,4 @@ pub row_dots : (f : FormatK) (orders : ℕ → List ℕ) → Rearrangements f or
 unfolding integer_says
 row_dots f orders each x w n single =
     rw (readings_long f orders (n / 256) x, weights_long f orders (n / 256) w)
-    (given_same _ _ (λ a. given_same _ _ (λ b. ap (λ (later : Said Float). cond (eqb n 0) (value nought) later) (given_same _ _ (λ c. given_same _ _ (λ d. ap value (row_kept f orders each x w n single (ltb-false _ _ d) (ltb-false _ _ c))))))))
+    (given_same _ _ (λ a. given_same _ _ (λ b. ap (λ (later : Said Float). cond (eqb n 0) (Ok nought) later) (given_same _ _ (λ c. given_same _ _ (λ d. ap Ok (row_kept f orders each x w n single (ltb-false _ _ d) (ltb-false _ _ c))))))))

@@ -3,8 +3,9 @@ use mathlib.Core.Path.{◌≡◌, refl, sym, ap, ◌∙◌}
 use Prim.Native.Nat.{ℕ}
 use native.Mathlib.Omega.{arith}
 use lib.Ieee.{Float, binary32, of_bits, to_bits, of_int, add, sub, mul}
-use Rattle.refusals.specs.Said.{Said, value, refused}
+use Rattle.refusals.specs.Said.{Said}
 use Rattle.refusals.specs.Refusals.{given}
+use Rattle.std.proofs.Common.{Ok, Err}
 use Rattle.memory.specs.Lists.{table}
 use Rattle.halves.specs.Binary16.{widened}
 use Rattle.layouts.specs.K.{scale_q4k, minimum_q4k, quant_q4k}
@@ -23,10 +24,10 @@ fused_row = record { weights = refl; readings = refl; before = refl; after = ref
 
 -- the bits of a value
 bits : Said Float → ℕ
-bits (value v) = to_bits binary32 v
-bits (refused why) = 0
+bits (Ok v) = to_bits binary32 v
+bits (Err why) = 0
 
-bits_apart : bits (value (of_bits binary32 0x4b80_0000)) ≡ bits (value (of_bits binary32 0x4b80_0001)) → ⊥
+bits_apart : bits (Ok (of_bits binary32 0x4b80_0000)) ≡ bits (Ok (of_bits binary32 0x4b80_0001)) → ⊥
 unfolding bits to_bits of_bits
 bits_apart e = let n : ◌≡◌ {A = ℕ} 0x4b80_0000 0x4b80_0001 = e in omega arith
 

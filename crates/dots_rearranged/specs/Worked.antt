@@ -1,9 +1,8 @@
 -- Beside the law a row that the fused dot answers otherwise: one Q4_K block in which two channels are put together.
 -- Definitions only.
-use Rattle.std.specs.Prelude.{◌≡◌, List, [], ◌∷◌, ◌++◌, ℕ, replicate, Float}
+use Rattle.std.specs.Prelude.{◌≡◌, List, [], ◌∷◌, ◌++◌, ℕ, replicate, Float, Ok}
 use Rattle.std.specs.Float.{binary32}
 use Rattle.std.specs.Float.Ieee.{of_bits}
-use Rattle.refusals.specs.Said.{value}
 use Rattle.numbers.specs.Steps.{nought}
 use Rattle.layouts.specs.declared.format.FormatK.TheVariants.{Q4K}
 use Rattle.dots_fused.specs.Says.{fused_says}
@@ -54,5 +53,5 @@ readings_after =
 pub record FusedRow : Type 0 where
   pub weights : moved_weights Q4K channels 1 weights_before ≡ weights_after
   pub readings : moved_readings Q4K channels 1 readings_before ≡ readings_after
-  pub before : fused_says Q4K readings_before weights_before 256 ≡ value (of_bits binary32 0x4b80_0001)
-  pub after : fused_says Q4K readings_after weights_after 256 ≡ value (of_bits binary32 0x4b80_0000)
+  pub before : fused_says Q4K readings_before weights_before 256 ≡ Ok (of_bits binary32 0x4b80_0001)
+  pub after : fused_says Q4K readings_after weights_after 256 ≡ Ok (of_bits binary32 0x4b80_0000)

@@ -108,8 +108,8 @@ fn sum_of_lanes(lanes: &[i32; 8]) -> i32
     ensures { result ≡ sum_ℤ (elem lanes.now) 8 }
 {
     let mut a: i32 = 0;
-    for l in 0..8usize {
-        a += lanes[l];
+    for &lane in lanes {
+        a += lane;
     }
     a
 }

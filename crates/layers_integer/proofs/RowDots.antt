@@ -9,10 +9,11 @@ use borrow.Author.Tests.{le-ltb, eq-eqb, ne_eqb}
 use lib.ListN.{length, get_or, drop, length-drop, get_or-append}
 use lib.Seq.{length-take-le}
 use lib.Ieee.{Float, nan}
-use Rattle.refusals.specs.Said.{Said, value, done}
+use Rattle.refusals.specs.Said.{Said, done}
 use Rattle.refusals.specs.Sizes.{most_in}
 use Rattle.refusals.specs.Refusals.{given}
 use Rattle.refusals.proofs.Laws.{carried_value, carried_said}
+use Rattle.std.proofs.Common.{Ok}
 use Rattle.memory.specs.Lists.{table, stretches_in}
 use Rattle.memory.proofs.Filled.{length_table, get_or_table}
 use Rattle.memory.proofs.Parts.{within}
@@ -33,7 +34,7 @@ not_nought m e = omega arith
 
 -- the integer dot of a row of whole blocks and as many readings never refuses: its blocks meet in the tree
 pub integer_answers : (f : FormatK) (x : List Float) (w : List ℕ) (n : ℕ) → n ≤ most_in → n ≤ length x → n % 256 ≡ 0 → length w ≡ row_bytes f n
-    → integer_says f x w n ≡ value (meets Tree (block_at f x w n) (n / 256))
+    → integer_says f x w n ≡ Ok (meets Tree (block_at f x w n) (n / 256))
 unfolding integer_says given integer_row meets tree met table
 integer_answers f x w zero most enough whole e = simp (eq-eqb _ _ (ap (λ (k : ℕ). k % bytes_k f) e ∙ mul-mod_left 0 (bytes_k f)))
 integer_answers f x w (suc m) most enough whole e =
@@ -57,7 +58,7 @@ output_at v s y b o hb ho =
 
 module _ (f : FormatK) (s : Shape) (x : List Float) (w : List ℕ) (b o : ℕ) (in_batch : b < s.batch) (in_outs : o < s.out_feat) where
   -- where a layer does not refuse, the integer dot of row b of the readings and row o of the weights
-  row_answers : (y : List Float) → layer_refusal f s (length x) (length w) (length y) ≡ done → integer_says f (reading_row x s b) (weight_row f w s.in_feat o) s.in_feat ≡ value (integer_dot_at f Tree (reading_row x s b) w s.in_feat o)
+  row_answers : (y : List Float) → layer_refusal f s (length x) (length w) (length y) ≡ done → integer_says f (reading_row x s b) (weight_row f w s.in_feat o) s.in_feat ≡ Ok (integer_dot_at f Tree (reading_row x s b) w s.in_feat o)
   row_answers y ok =
       let n = s.in_feat in
       let size = row_bytes f n in
@@ -68,7 +69,7 @@ module _ (f : FormatK) (s : Shape) (x : List Float) (w : List ℕ) (b o : ℕ) (
 
   -- AN OUTPUT IS THE ROW DOT: of a layer that says it is done, the output at (b, o) is what `integer_dot_q4k` or `integer_dot_q5k` says of row b of the readings and row o of the weights
   pub output_is_integer_dot : (y out : List Float) → integer_layer_says f Tree s x w y ≡ (done, out)
-      → integer_says f (reading_row x s b) (weight_row f w s.in_feat o) s.in_feat ≡ value (get_or out (b * s.out_feat + o) nan)
+      → integer_says f (reading_row x s b) (weight_row f w s.in_feat o) s.in_feat ≡ Ok (get_or out (b * s.out_feat + o) nan)
   unfolding integer_layer_says
   output_is_integer_dot y out e =
       let said = layer_refusal f s (length x) (length w) (length y) in
@@ -76,5 +77,5 @@ module _ (f : FormatK) (s : Shape) (x : List Float) (w : List ℕ) (b o : ℕ) (
       let ok = sym (carried_said said new y) ∙ ap (λ (q : Said (Unit {0}) × List Float). q.0) e in
       let same : new ≡ out = ap (λ (q : Said (Unit {0}) × List Float). q.1) (sym (carried_value said new y _ ok) ∙ e) in
       row_answers y ok
-      ∙ ap value (sym (output_at (λ b o. integer_dot_at f Tree (reading_row x s b) w s.in_feat o) s y b o in_batch in_outs)
+      ∙ ap Ok (sym (output_at (λ b o. integer_dot_at f Tree (reading_row x s b) w s.in_feat o) s y b o in_batch in_outs)
       ∙ ap (λ (l : List Float). get_or l (b * s.out_feat + o) nan) same)

@@ -1,5 +1,5 @@
 -- Each call's contract is met by one answer alone, and by one content of its output. Assumes nothing.
-use Rattle.refusals.proofs.Once.{OneCall, one_filled}
+use Rattle.refusals.proofs.Once.{OneCall, both}
 use Rattle.layers_integer.proofs.layers.linear_q4_k_integer.Reads as linear_q4_k_integer
 use Rattle.layers_integer.proofs.layers.linear_q5_k_integer.Reads as linear_q5_k_integer
 use Rattle.layers_integer.proofs.layers.linear_q6_k_integer.Reads as linear_q6_k_integer
@@ -8,19 +8,19 @@ use Rattle.layers_integer.proofs.layers.linear_q5_k_integer_rs.Reads as linear_q
 use Rattle.layers_integer.proofs.layers.linear_q6_k_integer_rs.Reads as linear_q6_k_integer_rs
 
 pub linear_q4_k_integer_once : OneCall linear_q4_k_integer.Post (λ κs s. s.1.1.0.now)
-linear_q4_k_integer_once κs a x y s t h k = one_filled x y h k
+linear_q4_k_integer_once κs a x y s t h k = both h k
 
 pub linear_q5_k_integer_once : OneCall linear_q5_k_integer.Post (λ κs s. s.1.1.0.now)
-linear_q5_k_integer_once κs a x y s t h k = one_filled x y h k
+linear_q5_k_integer_once κs a x y s t h k = both h k
 
 pub linear_q6_k_integer_once : OneCall linear_q6_k_integer.Post (λ κs s. s.1.1.0.now)
-linear_q6_k_integer_once κs a x y s t h k = one_filled x y h k
+linear_q6_k_integer_once κs a x y s t h k = both h k
 
 pub linear_q4_k_integer_rs_once : OneCall linear_q4_k_integer_rs.Post (λ κs s. s.1.1.0.now)
-linear_q4_k_integer_rs_once κs a x y s t h k = one_filled x y h k
+linear_q4_k_integer_rs_once κs a x y s t h k = both h k
 
 pub linear_q5_k_integer_rs_once : OneCall linear_q5_k_integer_rs.Post (λ κs s. s.1.1.0.now)
-linear_q5_k_integer_rs_once κs a x y s t h k = one_filled x y h k
+linear_q5_k_integer_rs_once κs a x y s t h k = both h k
 
 pub linear_q6_k_integer_rs_once : OneCall linear_q6_k_integer_rs.Post (λ κs s. s.1.1.0.now)
-linear_q6_k_integer_rs_once κs a x y s t h k = one_filled x y h k
+linear_q6_k_integer_rs_once κs a x y s t h k = both h k

@@ -1,7 +1,7 @@
 // The outputs of an integer layer that does not refuse: each row of readings is quantised once, and its blocks serve
-// every row of weights. There is no heap: a row's blocks are kept in local arrays.
+// every row of weights. There is no heap: a row's blocks are kept in a local array.
 #![tactic(auto)]
 
 mod rows;
 
-pub use rows::{rows_of_16, rows_of_512};
+pub use rows::rows_of;

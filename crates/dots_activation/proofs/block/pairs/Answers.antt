@@ -1,39 +1,26 @@
 -- `block::pairs` meets its contract: in turn l the eight places l, 16 + l, .. are filled. Assumes nothing.
-use mathlib.Core.Path.{refl}
 use Prim.Native.Nat.{ℕ, ◌+◌}
 use native.Mathlib.Omega.{arith}
-use lib.IntN.{ℤ, pos}
-use lib.ListN.{replicate}
+use lib.IntN.{ℤ}
 use Rattle.dots_activation.specs.Whole.{elem}
 use Rattle.dots_activation.specs.Inner.{pair_of}
-use Rattle.dots_activation.proofs.Sixteen.{streamed_none, streamed_more, streamed_all, pair_stored}
+use Rattle.dots_activation.proofs.Sixteen.{streamed_more, streamed_all, pair_stored}
 use Rattle.dots_activation.proofs.block.pairs.Goals as goal
-
-pub loop-l-init : goal.loop-l-init
-loop-l-init c = streamed_none (pair_of (elem c.args.qs.now)) 256 (replicate 128 (pos 0)) refl
 
 pub loop-l-preserved : goal.loop-l-preserved
 loop-l-preserved c =
-    let c₇ = c in
-    let c₆ = c₇ in
-    let c₅ = c₆ in
-    let c₄ = c₅ in
-    let c₃ = c₄ in
-    let c₂ = c₃ in
-    let c₁ = c₂ in
-    let d = c₁ in
-    let l = d.loop-l.l in
-    let q : ℕ → ℤ = elem d.args.qs.now in
-    streamed_more (pair_of q) 256 d.loop-l.t l (omega arith)
-    (pair_stored q l l c₁.pair.type_inv c₁.pair.ensures (omega arith))
-    (pair_stored q (16 + l) (32 + l) c₂.pair-in-loop-l.type_inv c₂.pair-in-loop-l.ensures (omega arith))
-    (pair_stored q (32 + l) (64 + l) c₃.pair-in-loop-l-2.type_inv c₃.pair-in-loop-l-2.ensures (omega arith))
-    (pair_stored q (48 + l) (96 + l) c₄.pair-in-loop-l-3.type_inv c₄.pair-in-loop-l-3.ensures (omega arith))
-    (pair_stored q (64 + l) (128 + l) c₅.pair-in-loop-l-4.type_inv c₅.pair-in-loop-l-4.ensures (omega arith))
-    (pair_stored q (80 + l) (160 + l) c₆.pair-in-loop-l-5.type_inv c₆.pair-in-loop-l-5.ensures (omega arith))
-    (pair_stored q (96 + l) (192 + l) c₇.pair-in-loop-l-6.type_inv c₇.pair-in-loop-l-6.ensures (omega arith))
+    let l = c.loop-l.l in
+    let q : ℕ → ℤ = elem c.args.qs.now in
+    streamed_more (pair_of q) 256 c.loop-l.t l (omega arith)
+    (pair_stored q l l c.pair.type_inv c.pair.ensures (omega arith))
+    (pair_stored q (16 + l) (32 + l) c.pair-in-loop-l.type_inv c.pair-in-loop-l.ensures (omega arith))
+    (pair_stored q (32 + l) (64 + l) c.pair-in-loop-l-2.type_inv c.pair-in-loop-l-2.ensures (omega arith))
+    (pair_stored q (48 + l) (96 + l) c.pair-in-loop-l-3.type_inv c.pair-in-loop-l-3.ensures (omega arith))
+    (pair_stored q (64 + l) (128 + l) c.pair-in-loop-l-4.type_inv c.pair-in-loop-l-4.ensures (omega arith))
+    (pair_stored q (80 + l) (160 + l) c.pair-in-loop-l-5.type_inv c.pair-in-loop-l-5.ensures (omega arith))
+    (pair_stored q (96 + l) (192 + l) c.pair-in-loop-l-6.type_inv c.pair-in-loop-l-6.ensures (omega arith))
     (pair_stored q (112 + l) (224 + l) c.pair-in-loop-l-7.type_inv c.pair-in-loop-l-7.ensures (omega arith))
-    d.loop-l.invariant
+    c.loop-l.invariant
 
 pub returns : goal.returns
 returns c =

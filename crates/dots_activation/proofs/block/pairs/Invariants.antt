@@ -1,5 +1,4 @@
 -- `block::pairs` meets its contract: in turn l the eight places l, 16 + l, .. are filled. Assumes nothing.
-use Prim.Native.Nat.{◌-◌}
 use Rattle.dots_activation.specs.Whole.{elem}
 use Rattle.dots_activation.specs.Inner.{pair_of}
 use Rattle.dots_activation.proofs.Sixteen.{Streamed}
@@ -7,6 +6,3 @@ use Rattle.dots_activation.proofs.block.pairs.Given as goal
 
 abbrev pub invariant-loop-l : goal.invariant-loop-l
 invariant-loop-l l = Streamed (pair_of (elem l.qs)) 256 l.t l.l
-
-abbrev pub decreases-loop-l : goal.decreases-loop-l
-decreases-loop-l l = 16 - l.l

@@ -16,20 +16,20 @@ use Rattle.dots_activation.proofs.Zeros.{zeros_behind}
 use Rattle.dots_activation.proofs.block.quants_of.Goals as goal
 
 pub loop-i-init : goal.loop-i-init
-loop-i-init c = (omega arith, refl, filling_start _ _ 256 refl)
+loop-i-init c = filling_start _ _ 256 refl
 
 pub loop-i-preserved : goal.loop-i-preserved
 loop-i-preserved c =
     let l = c.loop-i in
     let a = c.args in
     let here = ap (λ (t : Bool). cond t (quant_q8 (mul binary32 (get_or a.x.now l.i nan) a.inverse)) (pos 0)) (lt-ltb l.i (length a.x.now) (omega arith)) in
-    (omega arith, omega arith, filling_more (quant_at a.x.now a.inverse) (replicate 256 (pos 0)) 256 l.qs l.i _ refl l.invariant.2 (omega arith) (read_is w8 _ c.round_q8.type_inv ∙ c.round_q8.ensures ∙ sym here))
+    filling_more (quant_at a.x.now a.inverse) (replicate 256 (pos 0)) 256 l.qs l.i _ refl l.invariant (omega arith) (read_is w8 _ c.round_q8.type_inv ∙ c.round_q8.ensures ∙ sym here)
 
 pub returns : goal.returns
 returns c =
     let l = c.loop-i in
     let a = c.args in
     let e : l.i ≡ length a.x.now = omega arith in
-    l.invariant.2.0 ∙ ap (filled (quant_at a.x.now a.inverse) (replicate 256 (pos 0))) e
+    l.invariant.0 ∙ ap (filled (quant_at a.x.now a.inverse) (replicate 256 (pos 0))) e
     ∙ zeros_behind (quant_at a.x.now a.inverse) (length a.x.now) 256 (omega arith)
     (λ i h p. ap (λ (t : Bool). cond t (quant_q8 (mul binary32 (get_or a.x.now i nan) a.inverse)) (pos 0)) (le-ltb i (length a.x.now) h))

@@ -12,7 +12,7 @@ use Rattle.dots_activation.specs.Whole.{elem, Within}
 use Rattle.dots_activation.specs.Inner.{PairsWithin}
 use Rattle.dots_activation.proofs.Magnitudes.{add_within, fits_within}
 use Rattle.dots_activation.proofs.Ranges.{sum_halves}
-use Rattle.dots_activation.proofs.Loops.{acc_none, acc_fits, acc_more, acc_all, both_fit, both_are}
+use Rattle.dots_activation.proofs.Loops.{acc_none, acc_more, acc_all, both_fit, both_are}
 use Rattle.dots_activation.proofs.block.sum_of_32.Goals as goal
 
 -- turn l's two pairs, which are small
@@ -38,27 +38,17 @@ module _ {pairs : List ℤ} (near : PairsWithin 256 pairs) {j l : ℕ} (h : j < 
   turn_within = add_within (near.near (16 * j + l) (omega arith)) (near.near (16 * j + (8 + l)) (omega arith))
 
 pub loop-l-init : goal.loop-l-init
-loop-l-init c = (omega arith, acc_none w16 _ 512)
-
-pub overflow_add-s-in-loop-l-2 : goal.overflow_add-s-in-loop-l-2
-overflow_add-s-in-loop-l-2 c = turn_fits c.requires.0 c.requires.1 c.loop-l-test.true
-
-pub overflow_add-s-in-loop-l-3 : goal.overflow_add-s-in-loop-l-3
-overflow_add-s-in-loop-l-3 c =
-    let p = c.requires.0 in
-    let j = c.requires.1 in
-    let l = c.loop-l-test.true in
-    acc_fits 8 c.loop-l.invariant.1 (turn_is p j l) (turn_within p j l) l tt
+loop-l-init c = acc_none w16 _ 512
 
 pub loop-l-preserved : goal.loop-l-preserved
 loop-l-preserved c =
     let p = c.requires.0 in
     let j = c.requires.1 in
     let l = c.loop-l-test.true in
-    (omega arith, acc_more 8 c.loop-l.invariant.1 (turn_is p j l) (turn_within p j l) l tt)
+    acc_more 8 c.loop-l.invariant (turn_is p j l) (turn_within p j l) l tt
 
 pub returns : goal.returns
 returns c =
     let a = c.args in
-    let r = acc_all 8 c.loop-l.invariant.1 (omega arith) in
+    let r = acc_all 8 c.loop-l.invariant (omega arith) in
     (r.0 ∙ sum_halves (λ (l : ℕ). elem a.pairs.now (16 * a.j + l)) 8, r.1)

@@ -17,48 +17,39 @@ use Rattle.dots_activation.proofs.block.sums_right.Goals.{After-sum_of_32, Else-
 use Rattle.dots_activation.proofs.block.sums_right.Goals as goal
 
 pub loop-j-init : goal.loop-j-init
-loop-j-init c = (omega arith, every_none _, below_none _)
-
-pub sum_of_32-requires : goal.sum_of_32-requires
-sum_of_32-requires c = (c.pairs-t.ensures.1, omega arith)
+loop-j-init c = (every_none _, below_none _)
 
 pub overflow_cast-sum_of_32 : goal.overflow_cast-sum_of_32
 overflow_cast-sum_of_32 c = rw (read_is w16 _ c.sum_of_32.type_inv) (fits_within c.sum_of_32.ensures.1 tt)
 
 -- the turn's sum, as it is compared
 sum_is : (c : After-sum_of_32)
-    → let b = c in
-    to_z w16 (of_z w16 c.sum_of_32.result) ≡ sum_of_32 b.args.qs.now b.loop-j.j
+    → to_z w16 (of_z w16 c.sum_of_32.result) ≡ sum_of_32 c.args.qs.now c.loop-j.j
 sum_is c =
-    let b = c in
-    let t = b.pairs-t in
-    read_is w16 _ c.sum_of_32.type_inv ∙ c.sum_of_32.ensures.0 ∙ pairs_sum (elem b.args.qs.now) t.result b.loop-j.j t.ensures.0 (omega arith)
+    let t = c.pairs-t in
+    read_is w16 _ c.sum_of_32.type_inv ∙ c.sum_of_32.ensures.0 ∙ pairs_sum (elem c.args.qs.now) t.result c.loop-j.j t.ensures.0 (omega arith)
 
 pub returns-then-sum_of_32-bsums : goal.returns-then-sum_of_32-bsums
 unfolding sums_right
 returns-then-sum_of_32-bsums c =
-    let s = c in
-    (sym (every_not _ 8 s.loop-j.j (omega arith) (eq_z_not (sum_of_32 s.args.qs.now s.loop-j.j) (elem s.args.bsums.now s.loop-j.j) (λ e. c.if-sum_of_32-bsums.true (ap (of_z w32) (sum_is c.before.before ∙ e))))), λ e. absurd (false≢true e))
+    (sym (every_not _ 8 c.loop-j.j (omega arith) (eq_z_not (sum_of_32 c.args.qs.now c.loop-j.j) (elem c.args.bsums.now c.loop-j.j) (λ e. c.if-sum_of_32-bsums.true (ap (of_z w32) (sum_is c.before.before ∙ e))))), λ e. absurd (false≢true e))
 
 -- the claim is the sum
 claimed : (c : Else-sum_of_32-bsums)
-    → let b = c in
-    sum_of_32 b.args.qs.now b.loop-j.j ≡ elem b.args.bsums.now b.loop-j.j
+    → sum_of_32 c.args.qs.now c.loop-j.j ≡ elem c.args.bsums.now c.loop-j.j
 claimed c =
-    let s = c in
     sym (sum_is c.before.before) ∙ sym (to_z-of_z w32 _ (overflow_cast-sum_of_32 c.before.before)) ∙ ap (to_z w32) c.if-sum_of_32-bsums.false ∙ read_is w32 _ c.t13-1.given
 
 pub loop-j-preserved : goal.loop-j-preserved
 loop-j-preserved c =
-    let s = c in
-    let l = s.loop-j in
-    let r = s.sum_of_32 in
+    let l = c.loop-j in
+    let r = c.sum_of_32 in
     let e = claimed c in
-    (omega arith, every_more _ _ l.invariant.1 (rw e (eq_z_same (elem s.args.bsums.now l.j))), below_more _ _ l.invariant.2 (subst (Within 4096) (sym (read_is w16 _ r.type_inv) ∙ sum_is c.before.before ∙ e) r.ensures.1))
+    (every_more _ _ l.invariant.0 (rw e (eq_z_same (elem c.args.bsums.now l.j))), below_more _ _ l.invariant.1 (subst (Within 4096) (sym (read_is w16 _ r.type_inv) ∙ sum_is c.before.before ∙ e) r.ensures.1))
 
 pub returns : goal.returns
 unfolding sums_right
 returns c =
     let l = c.loop-j in
     let e : l.j ≡ 8 = omega arith in
-    (sym (rw e at l.invariant.1), λ _. record { near = λ k h. l.invariant.2 k (omega arith) })
+    (sym (rw e at l.invariant.0), λ _. record { near = λ k h. l.invariant.1 k (omega arith) })

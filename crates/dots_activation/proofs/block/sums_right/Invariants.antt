@@ -1,14 +1,11 @@
 -- `block::sums_right` meets its contract: every sum passed is right. Assumes nothing.
 use mathlib.Core.Path.{◌≡◌}
 use mathlib.Core.Bool.{true}
-use Prim.Native.Nat.{ℕ, ◌-◌, ◌≤◌, ◌<◌}
+use Prim.Native.Nat.{ℕ, ◌<◌}
 use Rattle.memory.specs.Lists.{every}
 use Rattle.dots_activation.specs.Whole.{elem, Within}
 use Rattle.dots_activation.specs.Blocks.{right_at}
 use Rattle.dots_activation.proofs.block.sums_right.Given as goal
 
 abbrev pub invariant-loop-j : goal.invariant-loop-j
-invariant-loop-j l = (l.j ≤ 8) × (every (right_at l.qs l.bsums) l.j ≡ true) × ((k : ℕ) → k < l.j → Within 4096 (elem l.bsums k))
-
-abbrev pub decreases-loop-j : goal.decreases-loop-j
-decreases-loop-j l = 8 - l.j
+invariant-loop-j l = (every (right_at l.qs l.bsums) l.j ≡ true) × ((k : ℕ) → k < l.j → Within 4096 (elem l.bsums k))

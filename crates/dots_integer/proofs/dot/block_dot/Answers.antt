@@ -4,16 +4,13 @@ use mathlib.Core.Bool.{true}
 use mathlib.Core.List.{List}
 use mathlib.Core.Logic.{◌⊎◌, ⊎_elim}
 use Prim.Native.Nat.{ℕ}
-use native.Mathlib.Omega.{arith}
 use mir.Syntax.{w8}
 use mir.Val.{Fits}
 use lib.IntN.{ℤ, pos}
 use lib.ListN.{length, get_or}
-use Rattle.layouts.specs.Formats.{bytes_k, has_minimums}
+use Rattle.layouts.specs.Formats.{has_minimums}
 use Rattle.layouts.specs.declared.format.FormatK.{FormatK}
 use Rattle.layouts.specs.declared.format.FormatK.TheVariants.{Q4K, Q5K, Q6K}
-use Rattle.layouts.specs.declared.format.Format.TheVariants.{OfK}
-use Rattle.layouts.proofs.Sizes.{sizes}
 use Rattle.k_quants.proofs.LaidOut.{laid_out_at, Laid, laid}
 use Rattle.dots_whole.specs.Inner.{FiveBits}
 use Rattle.dots_integer.proofs.Dots.{of_laid_out, Made, of_made}
@@ -33,34 +30,13 @@ left h n = ⊎_elim (λ e. e) (λ e. absurd (n e)) h
 serve : (f : FormatK) (w : List ℕ) (x : List ℤ) {q : List ℕ} → ((i : ℕ) → Fits w8 (get_or w i 0)) → has_minimums f ≡ true → length x ≡ 256 → Laid f w q → FiveBits q × (length q ≡ 256) × (length x ≡ 256)
 serve f w x {q} small m h l = (five_bits w (λ i. (small i).fits) f q m l, l.0, h)
 
-pub quants_q5k-requires : goal.quants_q5k-requires
-quants_q5k-requires c = c.requires.0 ∙ ap bytes_k c.in-Q5K.is
-
 pub products-p-requires : goal.products-p-requires
 products-p-requires c = serve c.args.format c.args.w.now c.args.qs.now c.type_inv.w (minimums c.in-Q4K.is) c.requires.1 (laid Q5K _ c.in-Q5K.is c.quants_q5k.ensures (λ i. refl))
-
-pub quants_q4k-requires : goal.quants_q4k-requires
-quants_q4k-requires c = c.requires.0 ∙ ap bytes_k (left c.in-Q4K.is c.in_default.not-Q5K)
 
 pub products-p-requires-in_default : goal.products-p-requires-in_default
 products-p-requires-in_default c = serve c.args.format c.args.w.now c.args.qs.now c.type_inv.w (minimums c.in-Q4K.is) c.requires.1 (laid Q4K _ (left c.in-Q4K.is c.in_default.not-Q5K) c.quants_q4k.ensures (λ i. refl))
 
 -- the products of either are made of the block's whole numbers
-pub dot_of_products-requires : goal.dot_of_products-requires
-dot_of_products-requires c =
-    let m : Made c.args.format c.args.w.now c.args.qs.now c.match-format-2.p =
-    elim c.match-format-2.branch [
-      | in-Q5K w ↦ record { quants = w.quants_q5k.result; own = laid Q5K _ w.in-Q5K.is w.quants_q5k.ensures (λ i. refl); pairs = rw w.p-is w.products-p.ensures }
-      | in_default w ↦ record { quants = w.quants_q4k.result; own = laid Q4K _ (left c.in-Q4K.is w.in_default.not-Q5K) w.quants_q4k.ensures (λ i. refl); pairs = rw w.p-is w.products-p-in_default.ensures }
-    ] in
-    (omega (arith, c.requires.0, sizes (OfK c.args.format)), m.pairs.1, c.requires.2, c.requires.3 (minimums c.in-Q4K.is))
-
-pub quants_q6k-q-requires : goal.quants_q6k-q-requires
-quants_q6k-q-requires c = c.requires.0 ∙ ap bytes_k c.in-Q6K.is
-
-pub dot_of_runs-requires : goal.dot_of_runs-requires
-dot_of_runs-requires c = (c.requires.0 ∙ ap bytes_k c.in-Q6K.is, c.requires.1)
-
 pub returns-after-format-2 : goal.returns-after-format-2
 returns-after-format-2 c =
     let m : Made c.args.format c.args.w.now c.args.qs.now c.match-format-2.p =

@@ -11,13 +11,10 @@ use Rattle.dots_kept_row.proofs.meeting.meet.Goals as goal
 
 pub returns-in-Tree : goal.returns-in-Tree
 returns-in-Tree c =
-    let k = c in
-    let e = k in
-    let l = e.args.dots.now in
-    ap (λ (q : Float × List Float). q.0) k.canonical_combine.ensures ∙ tree_meets l ∙ ap (λ (m : Meeting). meets m (values l) (length l)) (sym e.in-Tree.is)
+    let l = c.args.dots.now in
+    ap (λ (q : Float × List Float). q.0) c.canonical_combine.ensures ∙ tree_meets l ∙ ap (λ (m : Meeting). meets m (values l) (length l)) (sym c.in-Tree.is)
 
 pub returns-in-Running : goal.returns-in-Running
 returns-in-Running c =
-    let e = c in
-    let l = e.args.dots.now in
-    c.running_sum.ensures ∙ running_meets l ∙ ap (λ (m : Meeting). meets m (values l) (length l)) (sym e.in-Running.is)
+    let l = c.args.dots.now in
+    c.running_sum.ensures ∙ running_meets l ∙ ap (λ (m : Meeting). meets m (values l) (length l)) (sym c.in-Running.is)

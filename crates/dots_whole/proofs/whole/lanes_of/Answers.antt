@@ -62,18 +62,14 @@ long f e = ap length e ∙ length_table f 8
 
 pub loop-j-init : goal.loop-j-init
 unfolding sum_ℤ table
-loop-j-init c = (omega arith, refl, below_none _)
+loop-j-init c = (refl, below_none _)
 
 pub loop-l-init : goal.loop-l-init
-loop-l-init c = filling_start _ _ 8 (long _ c.loop-j.invariant.1)
-
-pub weighed_pairs-requires : goal.weighed_pairs-requires
-weighed_pairs-requires c =
-    (c.scale_q4k-scale.ensures.1, pair_near c.requires.1 (omega arith), pair_near c.requires.1 (omega arith))
+loop-l-init c = filling_start _ _ 8 (long _ c.loop-j.invariant.0)
 
 pub overflow_add-lanes : goal.overflow_add-lanes
 overflow_add-lanes c =
-    let n = lane_near c.args.w.now c.args.p.now c.loop-l.l c.loop-j.j c.loop-j.invariant.1 c.loop-l.invariant.0 c.loop-l-test.true c.requires.1 c.loop-j-test.true c.loop-j.invariant.2 in
+    let n = lane_near c.args.w.now c.args.p.now c.loop-l.l c.loop-j.j c.loop-j.invariant.0 c.loop-l.invariant.0 c.loop-l-test.true c.requires.1 c.loop-j-test.true c.loop-j.invariant.1 in
     both_fit w32 (lane_small n) c.weighed_pairs.type_inv n c.weighed_pairs.ensures.1 tt
 
 pub loop-l-preserved : goal.loop-l-preserved
@@ -83,10 +79,10 @@ loop-l-preserved c =
     let d = c.loop-l in
     let o = c.loop-j in
     let r = c.weighed_pairs in
-    let n = lane_near w p d.l o.j o.invariant.1 d.invariant.0 c.loop-l-test.true c.requires.1 c.loop-j-test.true o.invariant.2 in
-    let is = lane_is w p d.l o.j o.invariant.1 d.invariant.0 c.loop-l-test.true in
+    let n = lane_near w p d.l o.j o.invariant.0 d.invariant.0 c.loop-l-test.true c.requires.1 c.loop-j-test.true o.invariant.1 in
+    let is = lane_is w p d.l o.j o.invariant.0 d.invariant.0 c.loop-l-test.true in
     let f : ℕ → ℤ = λ i. sum_ℤ (lane_term w p i) (o.j + 1) in
-    filling_more f o.lanes 8 d.lanes d.l _ (long _ o.invariant.1) d.invariant (omega arith)
+    filling_more f o.lanes 8 d.lanes d.l _ (long _ o.invariant.0) d.invariant (omega arith)
     (both_are w32 (lane_small n) r.type_inv n r.ensures.1 tt
     ∙ ap (λ (z : ℤ). z +ℤ r.result) is
     ∙ ap (λ (z : ℤ). sum_ℤ (lane_term w p d.l) o.j +ℤ z) (term_is w d.l o.j c.requires.1 c.loop-l-test.true c.loop-j-test.true c.scale_q4k-scale.ensures.0 r.ensures.0)
@@ -95,14 +91,13 @@ loop-l-preserved c =
 pub loop-j-preserved : goal.loop-j-preserved
 loop-j-preserved c =
     let s = c.scale_q4k-scale in
-    (omega arith, filling_done _ _ 8 c.loop-l.lanes c.loop-l.l (long _ c.loop-j.invariant.1) c.loop-l.invariant (omega arith), below_more _ _ c.loop-j.invariant.2 (subst (λ (n : ℕ). n < 64) s.ensures.0 s.ensures.1))
+    (filling_done _ _ 8 c.loop-l.lanes c.loop-l.l (long _ c.loop-j.invariant.0) c.loop-l.invariant (omega arith), below_more _ _ c.loop-j.invariant.1 (subst (λ (n : ℕ). n < 64) s.ensures.0 s.ensures.1))
 
 pub returns : goal.returns
 returns c =
-    let o = c in
-    let a = o.args in
+    let a = c.args in
     let w = a.w.now in
     let p = a.p.now in
-    let e : o.loop-j.j ≡ 8 = omega arith in
-    let lanes_are : o.loop-j.lanes ≡ table (lane_at w p) 8 = o.loop-j.invariant.1 ∙ ap (λ (n : ℕ). table (λ (i : ℕ). sum_ℤ (lane_term w p i) n) 8) e in
-    (lanes_are, record { near = λ l h. subst (Within 7999488) (sym (ap (λ (m : List ℤ). elem m l) lanes_are ∙ get_or_table (lane_at w p) 8 l (pos 0) h)) (lane_within w p o.requires.1 l 8 h (omega arith) (λ k r. o.loop-j.invariant.2 k (omega arith))) })
+    let e : c.loop-j.j ≡ 8 = omega arith in
+    let lanes_are : c.loop-j.lanes ≡ table (lane_at w p) 8 = c.loop-j.invariant.0 ∙ ap (λ (n : ℕ). table (λ (i : ℕ). sum_ℤ (lane_term w p i) n) 8) e in
+    (lanes_are, record { near = λ l h. subst (Within 7999488) (sym (ap (λ (m : List ℤ). elem m l) lanes_are ∙ get_or_table (lane_at w p) 8 l (pos 0) h)) (lane_within w p c.requires.1 l 8 h (omega arith) (λ k r. c.loop-j.invariant.1 k (omega arith))) })

@@ -9,38 +9,32 @@ use Rattle.numbers.proofs.Signed.{read_is}
 use Rattle.layouts.specs.K.{minimum_q4k}
 use Rattle.dots_activation.specs.Whole.{elem}
 use Rattle.dots_activation.proofs.Magnitudes.{within}
-use Rattle.dots_activation.proofs.Loops.{acc_none, acc_all, call_fits, call_more}
+use Rattle.dots_activation.proofs.Loops.{acc_none, call_fits, call_more}
 use Rattle.dots_whole.proofs.whole.minimum_sum.Goals.{After-weighed-m}
 use Rattle.dots_whole.proofs.whole.minimum_sum.Goals as goal
 
 pub loop-j-init : goal.loop-j-init
-loop-j-init c = (omega arith, acc_none w32 _ 133693440)
+loop-j-init c = acc_none w32 _ 133693440
 
 pub overflow_cast-minimum_q4k : goal.overflow_cast-minimum_q4k
 overflow_cast-minimum_q4k c = record { sfits = omega (arith, c.minimum_q4k.ensures.1) }
 
 pub weighed-m-requires : goal.weighed-m-requires
 weighed-m-requires c =
-    let b = c in
-    rw (read_is w32 _ c.weighed-arg-1.given) (within (b.requires.2.near b.loop-j.j (omega arith)) (omega arith))
+    rw (read_is w32 _ c.weighed-arg-1.given) (within (c.requires.2.near c.loop-j.j (omega arith)) (omega arith))
 
 -- the turn's product
 turn : (c : After-weighed-m)
-    → let b = c in
-    let a = b.args in
-    c.weighed-m.result ≡ pos (minimum_q4k a.w.now b.loop-j.j) *ℤ elem a.sums.now b.loop-j.j
+    → let a = c.args in
+    c.weighed-m.result ≡ pos (minimum_q4k a.w.now c.loop-j.j) *ℤ elem a.sums.now c.loop-j.j
 turn c =
-    let b = c in
-    let a = b.args in
+    let a = c.args in
     let m = c.minimum_q4k in
     (rw (read_is w32 _ c.weighed-arg-1.given, to_z_pos w8 m.result (omega (arith, m.ensures.1))) at c.weighed-m.ensures.0)
-    ∙ ap (λ (u : ℕ). pos u *ℤ elem a.sums.now b.loop-j.j) m.ensures.0
+    ∙ ap (λ (u : ℕ). pos u *ℤ elem a.sums.now c.loop-j.j) m.ensures.0
 
 pub overflow_add-m : goal.overflow_add-m
-overflow_add-m c = call_fits 8 c.loop-j.invariant.1 c.weighed-m.type_inv (turn c) c.weighed-m.ensures.1 (omega arith) tt
+overflow_add-m c = call_fits 8 c.loop-j.invariant c.weighed-m.type_inv (turn c) c.weighed-m.ensures.1 (omega arith) tt
 
 pub loop-j-preserved : goal.loop-j-preserved
-loop-j-preserved c = (omega arith, call_more 8 c.loop-j.invariant.1 c.weighed-m.type_inv (turn c) c.weighed-m.ensures.1 (omega arith) tt)
-
-pub returns : goal.returns
-returns c = (acc_all 8 c.loop-j.invariant.1 (omega arith)).0
+loop-j-preserved c = call_more 8 c.loop-j.invariant c.weighed-m.type_inv (turn c) c.weighed-m.ensures.1 (omega arith) tt

@@ -1,17 +1,8 @@
 -- `whole::product` meets its contract. Assumes nothing.
 use mir.Syntax.{w8, w32}
 use Rattle.dots_activation.proofs.Magnitudes.{within_width}
-use Rattle.dots_activation.proofs.Loops.{wide_fits, wide_is, product_fits, product_made}
+use Rattle.dots_activation.proofs.Loops.{wide_is, product_made}
 use Rattle.dots_whole.proofs.whole.product.Goals as goal
-
-pub overflow_cast-result : goal.overflow_cast-result
-overflow_cast-result c = wide_fits w8 w32 c.args.a c.ranges.a.sfits tt
-
-pub overflow_cast-result-2 : goal.overflow_cast-result-2
-overflow_cast-result-2 c = wide_fits w8 w32 c.args.x c.ranges.x.sfits tt
-
-pub overflow_mul-result : goal.overflow_mul-result
-overflow_mul-result c = product_fits w32 (wide_is w8 w32 c.args.a c.ranges.a.sfits tt) (wide_is w8 w32 c.args.x c.ranges.x.sfits tt) (within_width w8 c.args.a c.ranges.a.sfits) (within_width w8 c.args.x c.ranges.x.sfits) tt
 
 pub returns : goal.returns
 returns c = product_made w32 (wide_is w8 w32 c.args.a c.ranges.a.sfits tt) (wide_is w8 w32 c.args.x c.ranges.x.sfits tt) (within_width w8 c.args.a c.ranges.a.sfits) (within_width w8 c.args.x c.ranges.x.sfits) tt

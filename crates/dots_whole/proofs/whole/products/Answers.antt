@@ -21,22 +21,19 @@ loop-g-init c = (parts_none (pair_of (product_at c.args.q.now c.args.x.now)) (re
 
 pub two_sub_blocks-requires : goal.two_sub_blocks-requires
 two_sub_blocks-requires c =
-    let d = c in
-    let t = d in
-    let g = d.loop-g.g in
+    let g = c.loop-g.g in
     let h : g < 4 = omega arith in
-    let q = t.requires.1 in
-    (five_bits_lent t.args.q.now g q h t.requires.0, lent_length t.args.q.now g q h, lent_length t.args.x.now g t.requires.2 h, part_length d.loop-g.p (32 * g) 32 (32 * g + 32) refl (omega arith))
+    let q = c.requires.1 in
+    (five_bits_lent c.args.q.now g q h c.requires.0, lent_length c.args.q.now g q h, lent_length c.args.x.now g c.requires.2 h, part_length c.loop-g.p (32 * g) 32 (32 * g + 32) refl (omega arith))
 
 pub loop-g-preserved : goal.loop-g-preserved
 loop-g-preserved c =
     let r = c.two_sub_blocks.ensures in
-    let d = c in
-    let a = d.args in
-    let g = d.loop-g.g in
+    let a = c.args in
+    let g = c.loop-g.g in
     let f : ℕ → ℤ = pair_of (product_at a.q.now a.x.now) in
     let same = pairs_lent a.q.now a.x.now g in
-    (parts_more f (replicate 128 (pos 0)) (λ k. 32 * k) 4 _ d.loop-g.p _ g 32 (omega arith) (omega arith) (omega arith) r.0 same d.loop-g.invariant.0, below_more _ _ d.loop-g.invariant.1 (λ i h. subst (Within 7936) (same i h) (r.1 i h)))
+    (parts_more f (replicate 128 (pos 0)) (λ k. 32 * k) 4 _ c.loop-g.p _ g 32 (omega arith) (omega arith) (omega arith) r.0 same c.loop-g.invariant.0, below_more _ _ c.loop-g.invariant.1 (λ i h. subst (Within 7936) (same i h) (r.1 i h)))
 
 pub returns : goal.returns
 returns c =

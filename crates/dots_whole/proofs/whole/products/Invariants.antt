@@ -1,5 +1,5 @@
 -- `whole::products` meets its contract: in turn g the 32 pairs of part g are filled. Assumes nothing.
-use Prim.Native.Nat.{ℕ, ◌+◌, ◌-◌, ◌*◌, ◌<◌}
+use Prim.Native.Nat.{ℕ, ◌+◌, ◌*◌, ◌<◌}
 use lib.IntN.{ℤ}
 use Rattle.memory.proofs.Parts.{InParts}
 use Rattle.dots_activation.specs.Whole.{Within}
@@ -13,6 +13,3 @@ Near f g = (k : ℕ) → k < g → (i : ℕ) → i < 32 → Within 7936 (f (32 *
 
 abbrev pub invariant-loop-g : goal.invariant-loop-g
 invariant-loop-g l = InParts (pair_of (product_at l.q l.x)) l.initial.p (λ k. 32 * k) 4 l.p l.g × Near (pair_of (product_at l.q l.x)) l.g
-
-abbrev pub decreases-loop-g : goal.decreases-loop-g
-decreases-loop-g l = 4 - l.g

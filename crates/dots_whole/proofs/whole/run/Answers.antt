@@ -6,13 +6,12 @@ use lib.IntN.{◌*ℤ◌}
 use mir.Syntax.{w8, w32}
 use Rattle.numbers.proofs.Signed.{read_is}
 use Rattle.dots_activation.specs.Whole.{elem}
-use Rattle.dots_activation.proofs.Magnitudes.{within}
-use Rattle.dots_activation.proofs.Loops.{acc_none, acc_all, call_fits, call_more}
+use Rattle.dots_activation.proofs.Loops.{acc_none, call_more}
 use Rattle.dots_whole.proofs.whole.run.Goals.{After-product-s}
 use Rattle.dots_whole.proofs.whole.run.Goals as goal
 
 pub loop-l-init : goal.loop-l-init
-loop-l-init c = (omega arith, acc_none w32 _ 16384)
+loop-l-init c = acc_none w32 _ 16384
 
 -- the turn's product
 turn : (c : After-product-s)
@@ -21,11 +20,5 @@ turn : (c : After-product-s)
     c.product-s.result ≡ elem a.q.now i *ℤ elem a.x.now i
 turn c = rw (read_is w8 _ c.product-arg-1.given, read_is w8 _ c.product-arg-in-loop-l-1.given) at c.product-s.ensures.0
 
-pub overflow_add-s : goal.overflow_add-s
-overflow_add-s c = call_fits 16 c.loop-l.invariant.1 c.product-s.type_inv (turn c) c.product-s.ensures.1 (omega arith) tt
-
 pub loop-l-preserved : goal.loop-l-preserved
-loop-l-preserved c = (omega arith, call_more 16 c.loop-l.invariant.1 c.product-s.type_inv (turn c) c.product-s.ensures.1 (omega arith) tt)
-
-pub returns : goal.returns
-returns c = let r = acc_all 16 c.loop-l.invariant.1 (omega arith) in (r.0, within r.1 (omega arith))
+loop-l-preserved c = call_more 16 c.loop-l.invariant c.product-s.type_inv (turn c) c.product-s.ensures.1 (omega arith) tt

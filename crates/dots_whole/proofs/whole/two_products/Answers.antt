@@ -9,7 +9,7 @@ use mir.Val.{SFits, to_z, of_z}
 use mir.ValLaws.{to_z_pos}
 use Rattle.dots_activation.specs.Whole.{Within}
 use Rattle.dots_activation.proofs.Magnitudes.{pos_within, within_width}
-use Rattle.dots_activation.proofs.Loops.{wide_fits, wide_is, product_fits, product_made, sum_fits, sum_made}
+use Rattle.dots_activation.proofs.Loops.{wide_is, product_fits, product_made, sum_fits, sum_made}
 use Rattle.dots_whole.proofs.whole.two_products.Goals as goal
 
 -- a and x, as the machine multiplies them
@@ -19,18 +19,6 @@ module _ (a : ℕ) (x : ℤ) (h : a < 32) (p : mag x < 2 ^ 7) where
 
   one_made : (to_z w16 (of_z w16 (to_z w16 a *ℤ to_z w16 (of_z w16 (to_z w8 (of_z w8 x))))) ≡ pos a *ℤ x) × Within 3968 (to_z w16 (of_z w16 (to_z w16 a *ℤ to_z w16 (of_z w16 (to_z w8 (of_z w8 x))))))
   one_made = product_made w16 (to_z_pos w16 a (omega arith)) (wide_is w8 w16 x p tt) (pos_within {B = 31} (omega arith)) (within_width w8 x p) tt
-
-pub overflow_cast-result-2 : goal.overflow_cast-result-2
-overflow_cast-result-2 c = wide_fits w8 w16 c.args.x c.ranges.x.sfits tt
-
-pub overflow_mul-result : goal.overflow_mul-result
-overflow_mul-result c = one_fits c.args.a c.args.x c.requires.0 c.ranges.x.sfits
-
-pub overflow_cast-result-4 : goal.overflow_cast-result-4
-overflow_cast-result-4 c = wide_fits w8 w16 c.args.y c.ranges.y.sfits tt
-
-pub overflow_mul-result-2 : goal.overflow_mul-result-2
-overflow_mul-result-2 c = one_fits c.args.b c.args.y c.requires.1 c.ranges.y.sfits
 
 pub overflow_add-result : goal.overflow_add-result
 overflow_add-result c =

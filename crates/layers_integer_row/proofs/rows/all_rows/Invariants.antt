@@ -1,15 +1,9 @@
 -- `rows::all_rows` meets its contract: one row of readings a turn, into its own row of the output. Assumes nothing.
 use mathlib.Core.Path.{◌≡◌}
-use Prim.Native.Nat.{◌-◌, ◌*◌, ◌/◌, ◌%◌, ◌≤◌}
-use lib.ListN.{length}
+use Prim.Native.Nat.{◌*◌, ◌/◌, ◌%◌}
 use Rattle.memory.specs.Lists.{filled, part}
 use Rattle.layers_integer_row.specs.Outputs.{integer_dot_at}
 use Rattle.layers_integer_row.proofs.rows.all_rows.Given as goal
 
 abbrev pub invariant-loop-b : goal.invariant-loop-b
-invariant-loop-b l =
-    (l.y ≡ filled (λ k. integer_dot_at l.format l.meeting (part l.x (k / l.outs * l.n) l.n) l.w l.n (k % l.outs)) l.initial.y (l.b * l.outs)) × (l.b ≤ l.b-end) × (length l.y ≡ length l.initial.y)
-    × (length l.ds ≡ length l.initial.ds) × (length l.qs ≡ length l.initial.qs) × (length l.sums ≡ length l.initial.sums) × (length l.dots ≡ length l.initial.dots)
-
-abbrev pub decreases-loop-b : goal.decreases-loop-b
-decreases-loop-b l = l.b-end - l.b
+invariant-loop-b l = l.y ≡ filled (λ k. integer_dot_at l.format l.meeting (part l.x (k / l.outs * l.n) l.n) l.w l.n (k % l.outs)) l.initial.y (l.b * l.outs)
