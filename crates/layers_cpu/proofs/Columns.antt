@@ -18,8 +18,15 @@ use Rattle.memory.specs.Lists.{table, filled}
 use Rattle.memory.proofs.Filled.{length_table, get_or_table, length_filled, filled_behind}
 use Rattle.memory.proofs.Parts.{within}
 use Rattle.layouts.specs.declared.format.Format.{Format}
+use Rattle.layers_shape.specs.declared.Shape.{Shape}
 use Rattle.layers_cpu.specs.Says.{row_weight}
 use Rattle.layers_cpu.specs.Columns.{column, columns, scratch_of}
+
+-- row b lies within the readings, and its place o within the output
+pub rows_in : (s : Shape) (b o readings places : ℕ) → b < s.batch → o < s.out_feat → s.batch * s.in_feat ≤ readings → s.batch * s.out_feat ≤ places
+    → (b * s.in_feat + s.in_feat ≤ readings) × (b * s.out_feat + o < places)
+rows_in s b o readings places h k read room =
+    (within b s.in_feat s.batch readings h read, omega (arith, k, within b s.out_feat s.batch places h room))
 
 -- ---- one column
 

@@ -1,6 +1,6 @@
 // The `_cpu` layers: a row of weights is decoded into scratch once, and serves every row of readings.
 ghost use Rattle.std.specs.Prelude.{◌≡◌, ◌*◌, ◌≤◌, ◌<◌, length};
-ghost use Rattle.refusals.specs.Said.{done, outcome_says};
+ghost use Rattle.refusals.specs.Said.{done};
 ghost use Rattle.refusals.specs.Sizes.{most_in, most_out, most_batch};
 ghost use Rattle.sums_lanes.specs.Lanes.{products};
 ghost use Rattle.sums.specs.Rows.{row_sum};
@@ -13,14 +13,15 @@ use decoded_rows::decode_row;
 use layers_cpu_checks::cpu_refusal;
 use layers_shape::Shape;
 use layouts::{Format, Format32, FormatK};
-use refusals::{Answer, Check, Outcome, passed_on};
+use refusals::Refusal;
 
 // Place o of every row of the output: the dot of each row of readings and one row of weights, decoded.
-fn fill_column(x: &[f32], row: &[f32], y: &mut [f32], s: Shape, o: usize) -> Outcome
+#[tactic(auto, using(crate::proofs::Columns::rows_in))]
+fn fill_column(x: &[f32], row: &[f32], y: &mut [f32], s: Shape, o: usize) -> Result<(), Refusal>
     requires batch_le_most_batch { (s.batch ≤ most_batch) × (s.in_feat ≤ most_in) × (s.out_feat ≤ most_out) × (o < s.out_feat) }
     requires in_feat_in_bounds { (s.batch * s.in_feat ≤ length x.now) × (length row.now ≡ s.in_feat)
         × (s.batch * s.out_feat ≤ length y.old) }
-    ensures { (outcome_says result ≡ done)
+    ensures { (result ≡ done)
         × (y.new
         ≡ column (λ b. row_sum (products (reading_row x.now s b) row.now) s.in_feat)
         s.out_feat o y.old s.batch) }
@@ -30,13 +31,10 @@ fn fill_column(x: &[f32], row: &[f32], y: &mut [f32], s: Shape, o: usize) -> Out
     for b in 0..s.batch {
         let from = b * n;
         let to = from + n;
-        let answer = sums::canonical_dot_pub(&x[from..to], row, n);
-        let Answer::Value(value) = answer else {
-            return passed_on(answer);
-        };
+        let value = sums::canonical_dot_pub(&x[from..to], row, n)?;
         y[b * outs + o] = value;
     }
-    Outcome::Done
+    Ok(())
 }
 
 // Every output, a row of weights at a time.
@@ -47,24 +45,21 @@ fn all_columns(
     y: &mut [f32],
     scratch: &mut [f32],
     s: Shape,
-) -> Outcome
+) -> Result<(), Refusal>
     requires { cpu_refusal format s (length x.now) (length w.now) (length y.old) (length scratch.old)
         ≡ done }
-    ensures { (outcome_says result, (y.new, scratch.new))
+    ensures { (result, (y.new, scratch.new))
         ≡ cpu_says format s x.now w.now y.old scratch.old }
 {
     let n = s.in_feat;
     if s.batch == 0 {
-        return Outcome::Done;
+        return Ok(());
     }
     for o in 0..s.out_feat {
         decode_row(format, w, o * n, &mut scratch[..n]);
-        let filled = fill_column(x, &scratch[..n], y, s, o);
-        let Outcome::Done = filled else {
-            return filled;
-        };
+        fill_column(x, &scratch[..n], y, s, o)?;
     }
-    Outcome::Done
+    Ok(())
 }
 
 fn cpu_layer(
@@ -74,14 +69,11 @@ fn cpu_layer(
     y: &mut [f32],
     scratch: &mut [f32],
     s: Shape,
-) -> Outcome
-    ensures { (outcome_says result, (y.new, scratch.new))
+) -> Result<(), Refusal>
+    ensures { (result, (y.new, scratch.new))
         ≡ cpu_says format s x.now w.now y.old scratch.old }
 {
-    let checked = cpu_refusal(format, s, x.len(), w.len(), y.len(), scratch.len());
-    if let Check::Refused(refusal) = checked {
-        return Outcome::Refused(refusal);
-    }
+    cpu_refusal(format, s, x.len(), w.len(), y.len(), scratch.len())?;
     all_columns(format, x, w, y, scratch, s)
 }
 
@@ -95,16 +87,12 @@ pub fn linear_q4_k_cpu(
     batch: usize,
     in_feat: usize,
     out_feat: usize,
-) -> Outcome
-    ensures { (outcome_says result, (y.new, scratch.new))
+) -> Result<(), Refusal>
+    ensures { (result, (y.new, scratch.new))
         ≡ cpu_says (Format.OfK FormatK.Q4K) (shape batch in_feat out_feat) x.now w.now
         y.old scratch.old }
 {
-    let s = Shape {
-        batch,
-        in_feat,
-        out_feat,
-    };
+    let s = Shape::of(batch, in_feat, out_feat);
     cpu_layer(Format::OfK(FormatK::Q4K), x, w, y, scratch, s)
 }
 
@@ -117,16 +105,12 @@ pub fn linear_q6_k_cpu(
     batch: usize,
     in_feat: usize,
     out_feat: usize,
-) -> Outcome
-    ensures { (outcome_says result, (y.new, scratch.new))
+) -> Result<(), Refusal>
+    ensures { (result, (y.new, scratch.new))
         ≡ cpu_says (Format.OfK FormatK.Q6K) (shape batch in_feat out_feat) x.now w.now
         y.old scratch.old }
 {
-    let s = Shape {
-        batch,
-        in_feat,
-        out_feat,
-    };
+    let s = Shape::of(batch, in_feat, out_feat);
     cpu_layer(Format::OfK(FormatK::Q6K), x, w, y, scratch, s)
 }
 
@@ -139,16 +123,12 @@ pub fn linear_q4_0_cpu(
     batch: usize,
     in_feat: usize,
     out_feat: usize,
-) -> Outcome
-    ensures { (outcome_says result, (y.new, scratch.new))
+) -> Result<(), Refusal>
+    ensures { (result, (y.new, scratch.new))
         ≡ cpu_says (Format.Of32 Format32.Q40) (shape batch in_feat out_feat) x.now w.now
         y.old scratch.old }
 {
-    let s = Shape {
-        batch,
-        in_feat,
-        out_feat,
-    };
+    let s = Shape::of(batch, in_feat, out_feat);
     cpu_layer(Format::Of32(Format32::Q40), x, w, y, scratch, s)
 }
 
@@ -161,16 +141,12 @@ pub fn linear_q4_0_ggml_cpu(
     batch: usize,
     in_feat: usize,
     out_feat: usize,
-) -> Outcome
-    ensures { (outcome_says result, (y.new, scratch.new))
+) -> Result<(), Refusal>
+    ensures { (result, (y.new, scratch.new))
         ≡ cpu_says (Format.Of32 Format32.Q40Ggml) (shape batch in_feat out_feat) x.now w.now
         y.old scratch.old }
 {
-    let s = Shape {
-        batch,
-        in_feat,
-        out_feat,
-    };
+    let s = Shape::of(batch, in_feat, out_feat);
     cpu_layer(Format::Of32(Format32::Q40Ggml), x, w, y, scratch, s)
 }
 
@@ -183,15 +159,11 @@ pub fn linear_iq4_nl_cpu(
     batch: usize,
     in_feat: usize,
     out_feat: usize,
-) -> Outcome
-    ensures { (outcome_says result, (y.new, scratch.new))
+) -> Result<(), Refusal>
+    ensures { (result, (y.new, scratch.new))
         ≡ cpu_says (Format.Of32 Format32.Iq4Nl) (shape batch in_feat out_feat) x.now w.now
         y.old scratch.old }
 {
-    let s = Shape {
-        batch,
-        in_feat,
-        out_feat,
-    };
+    let s = Shape::of(batch, in_feat, out_feat);
     cpu_layer(Format::Of32(Format32::Iq4Nl), x, w, y, scratch, s)
 }

@@ -1,24 +1,24 @@
 // Why a `_cpu` layer says no.
 ghost use Rattle.std.specs.Prelude.{◌≡◌, ◌^◌, ◌<◌};
-ghost use Rattle.refusals.specs.Said.{check_says};
 ghost use Rattle.layers_cpu_checks.specs.Refusals.{other_weights, cpu_refusal};
 
 use layers_shape::Shape;
 use layouts::{Format, Format32, FormatK};
-use refusals::{Check, Refusal};
+use refusals::Refusal;
 
 // The refusal of any other weights than needed: there are fewer, or there are more.
 fn other_weights(found: usize, needed: usize) -> Refusal
     ensures { result ≡ other_weights found needed }
 {
     if found < needed {
-        return refusals::WEIGHTS_SHORT;
+        return Refusal::WeightsShort;
     }
-    refusals::WEIGHTS_LONG
+    Refusal::WeightsLong
 }
 
 // Over a K format: 6, 4, 5, 1, 3 or 14, and 5 for scratch, in this order. A slice has fewer than 2^63
 // places, so the product of its blocks fits.
+#[tactic(auto, using(layers_shape::proofs::Fits::in_sizes, layers_shape::proofs::Fits::product_small, layouts::proofs::Sizes::values_fit, layouts::proofs::Sizes::sizes), unfolding(crate::specs::Refusals::cpu_refusal, refusals::specs::Refusals::given))]
 fn cpu_k_refusal(
     format: FormatK,
     s: Shape,
@@ -26,35 +26,36 @@ fn cpu_k_refusal(
     weights: usize,
     places: usize,
     scratch: usize,
-) -> Check
+) -> Result<(), Refusal>
     requires { weights < 2 ^ 63 }
-    ensures { check_says result ≡ cpu_refusal (Format.OfK format) s readings weights places scratch }
+    ensures { result ≡ cpu_refusal (Format.OfK format) s readings weights places scratch }
 {
     if layers_shape::is_oversize(s) {
-        return Check::Refused(refusals::TOO_LARGE);
+        return Err(Refusal::TooLarge);
     }
     if readings != s.batch * s.in_feat {
-        return Check::Refused(refusals::READINGS_SHORT);
+        return Err(Refusal::ReadingsShort);
     }
     if places != s.batch * s.out_feat {
-        return Check::Refused(refusals::ROOM_SHORT);
+        return Err(Refusal::RoomShort);
     }
     let size = layouts::block_bytes(Format::OfK(format));
     if weights % size != 0 {
-        return Check::Refused(refusals::NOT_WHOLE_BLOCKS);
+        return Err(Refusal::NotWholeBlocks);
     }
     let found = weights / size * 256;
     let needed = s.out_feat * s.in_feat;
     if found != needed {
-        return Check::Refused(other_weights(found, needed));
+        return Err(other_weights(found, needed));
     }
     if scratch < s.in_feat {
-        return Check::Refused(refusals::ROOM_SHORT);
+        return Err(Refusal::RoomShort);
     }
-    Check::Passed
+    Ok(())
 }
 
 // Over a 32-value format: 6, 2, 3 or 14, 4, 5, and 5 for scratch, in this order.
+#[tactic(auto, using(layers_shape::proofs::Fits::in_sizes, layers_shape::proofs::Fits::product_small, layouts::proofs::Sizes::least_32), unfolding(crate::specs::Refusals::cpu_refusal, refusals::specs::Refusals::given))]
 fn cpu_32_refusal(
     format: Format32,
     s: Shape,
@@ -62,30 +63,30 @@ fn cpu_32_refusal(
     weights: usize,
     places: usize,
     scratch: usize,
-) -> Check
-    ensures { check_says result ≡ cpu_refusal (Format.Of32 format) s readings weights places scratch }
+) -> Result<(), Refusal>
+    ensures { result ≡ cpu_refusal (Format.Of32 format) s readings weights places scratch }
 {
     if layers_shape::is_oversize(s) {
-        return Check::Refused(refusals::TOO_LARGE);
+        return Err(Refusal::TooLarge);
     }
     if s.in_feat % 32 != 0 {
-        return Check::Refused(refusals::NOT_A_MULTIPLE);
+        return Err(Refusal::NotAMultiple);
     }
     let size = layouts::block_bytes(Format::Of32(format));
     let needed = s.out_feat * (s.in_feat / 32 * size);
     if weights != needed {
-        return Check::Refused(other_weights(weights, needed));
+        return Err(other_weights(weights, needed));
     }
     if readings != s.batch * s.in_feat {
-        return Check::Refused(refusals::READINGS_SHORT);
+        return Err(Refusal::ReadingsShort);
     }
     if places != s.batch * s.out_feat {
-        return Check::Refused(refusals::ROOM_SHORT);
+        return Err(Refusal::RoomShort);
     }
     if scratch < s.in_feat {
-        return Check::Refused(refusals::ROOM_SHORT);
+        return Err(Refusal::RoomShort);
     }
-    Check::Passed
+    Ok(())
 }
 
 pub fn cpu_refusal(
@@ -95,9 +96,9 @@ pub fn cpu_refusal(
     weights: usize,
     places: usize,
     scratch: usize,
-) -> Check
+) -> Result<(), Refusal>
     requires { weights < 2 ^ 63 }
-    ensures { check_says result ≡ cpu_refusal format s readings weights places scratch }
+    ensures { result ≡ cpu_refusal format s readings weights places scratch }
 {
     match format {
         Format::Of32(f) => cpu_32_refusal(f, s, readings, weights, places, scratch),

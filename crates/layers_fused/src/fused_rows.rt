@@ -1,6 +1,6 @@
 // The fused layers: no decoded row is held.
 ghost use Rattle.std.specs.Prelude.{◌≡◌, ◌*◌, ◌%◌, ◌≤◌, length};
-ghost use Rattle.refusals.specs.Said.{done, outcome_says};
+ghost use Rattle.refusals.specs.Said.{done};
 ghost use Rattle.refusals.specs.Sizes.{most_in, most_out};
 ghost use Rattle.memory.specs.Lists.{table};
 ghost use Rattle.layers_shape.specs.Shapes.{shape, row_bytes, layer_refusal};
@@ -8,13 +8,14 @@ ghost use Rattle.layers_fused.specs.Says.{fused_dot_at, fused_layer_says};
 
 use layers_shape::{Shape, layer_refusal};
 use layouts::FormatK;
-use refusals::{Answer, Check, Outcome, passed_on};
+use refusals::Refusal;
 
 // The outputs of one row of readings, a place for each row of weights.
-fn one_row(format: FormatK, x: &[f32], w: &[u8], y: &mut [f32]) -> Outcome
+#[tactic(auto, using(crate::proofs::RowDots::row_in))]
+fn one_row(format: FormatK, x: &[f32], w: &[u8], y: &mut [f32]) -> Result<(), Refusal>
     requires { (length x.now ≤ most_in) × (length x.now % 256 ≡ 0) × (length y.old ≤ most_out)
         × (length y.old * row_bytes format (length x.now) ≤ length w.now) }
-    ensures { (outcome_says result ≡ done)
+    ensures { (result ≡ done)
         × (y.new
         ≡ table (fused_dot_at format x.now w.now (length x.now))
         (length y.old)) }
@@ -24,19 +25,17 @@ fn one_row(format: FormatK, x: &[f32], w: &[u8], y: &mut [f32]) -> Outcome
     for o in 0..y.len() {
         let from = o * size;
         let to = from + size;
-        let answer = dots_fused::fused_dot(format, x, &w[from..to], n);
-        let Answer::Value(value) = answer else {
-            return passed_on(answer);
-        };
+        let value = dots_fused::fused_dot(format, x, &w[from..to], n)?;
         y[o] = value;
     }
-    Outcome::Done
+    Ok(())
 }
 
 // The outputs of every row of readings.
-fn all_rows(format: FormatK, x: &[f32], w: &[u8], y: &mut [f32], s: Shape) -> Outcome
+#[tactic(auto, using(crate::proofs::RowDots::rows_in))]
+fn all_rows(format: FormatK, x: &[f32], w: &[u8], y: &mut [f32], s: Shape) -> Result<(), Refusal>
     requires { layer_refusal format s (length x.now) (length w.now) (length y.old) ≡ done }
-    ensures { (outcome_says result, y.new)
+    ensures { (result, y.new)
         ≡ fused_layer_says format s x.now w.now y.old }
 {
     let n = s.in_feat;
@@ -46,21 +45,16 @@ fn all_rows(format: FormatK, x: &[f32], w: &[u8], y: &mut [f32], s: Shape) -> Ou
         let to = from + n;
         let at = b * outs;
         let end = at + outs;
-        let row = one_row(format, &x[from..to], w, &mut y[at..end]);
-        let Outcome::Done = row else {
-            return row;
-        };
+        one_row(format, &x[from..to], w, &mut y[at..end])?;
     }
-    Outcome::Done
+    Ok(())
 }
 
-fn fused_layer(format: FormatK, x: &[f32], w: &[u8], y: &mut [f32], s: Shape) -> Outcome
-    ensures { (outcome_says result, y.new)
+fn fused_layer(format: FormatK, x: &[f32], w: &[u8], y: &mut [f32], s: Shape) -> Result<(), Refusal>
+    ensures { (result, y.new)
         ≡ fused_layer_says format s x.now w.now y.old }
 {
-    if let Check::Refused(refusal) = layer_refusal(format, s, x.len(), w.len(), y.len()) {
-        return Outcome::Refused(refusal);
-    }
+    layer_refusal(format, s, x.len(), w.len(), y.len())?;
     all_rows(format, x, w, y, s)
 }
 
@@ -72,17 +66,12 @@ pub fn linear_q4_k_fused(
     batch: usize,
     in_feat: usize,
     out_feat: usize,
-) -> Outcome
-    ensures { (outcome_says result, y.new)
+) -> Result<(), Refusal>
+    ensures { (result, y.new)
         ≡ fused_layer_says FormatK.Q4K (shape batch in_feat out_feat) x.now w.now
         y.old }
 {
-    let s = Shape {
-        batch,
-        in_feat,
-        out_feat,
-    };
-    fused_layer(FormatK::Q4K, x, w, y, s)
+    fused_layer(FormatK::Q4K, x, w, y, Shape::of(batch, in_feat, out_feat))
 }
 
 // The same in Q5_K.
@@ -93,17 +82,12 @@ pub fn linear_q5_k_fused(
     batch: usize,
     in_feat: usize,
     out_feat: usize,
-) -> Outcome
-    ensures { (outcome_says result, y.new)
+) -> Result<(), Refusal>
+    ensures { (result, y.new)
         ≡ fused_layer_says FormatK.Q5K (shape batch in_feat out_feat) x.now w.now
         y.old }
 {
-    let s = Shape {
-        batch,
-        in_feat,
-        out_feat,
-    };
-    fused_layer(FormatK::Q5K, x, w, y, s)
+    fused_layer(FormatK::Q5K, x, w, y, Shape::of(batch, in_feat, out_feat))
 }
 
 // The same in Q6_K.
@@ -114,15 +98,10 @@ pub fn linear_q6_k_fused(
     batch: usize,
     in_feat: usize,
     out_feat: usize,
-) -> Outcome
-    ensures { (outcome_says result, y.new)
+) -> Result<(), Refusal>
+    ensures { (result, y.new)
         ≡ fused_layer_says FormatK.Q6K (shape batch in_feat out_feat) x.now w.now
         y.old }
 {
-    let s = Shape {
-        batch,
-        in_feat,
-        out_feat,
-    };
-    fused_layer(FormatK::Q6K, x, w, y, s)
+    fused_layer(FormatK::Q6K, x, w, y, Shape::of(batch, in_feat, out_feat))
 }

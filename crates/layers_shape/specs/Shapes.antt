@@ -1,10 +1,11 @@
 -- A layer's shape: what it needs, and where its rows lie. Definitions only.
 use Prim.{Unit}
 use Rattle.std.specs.Prelude.{ℕ, ◌*◌, ◌/◌, ◌%◌, Bool, not, ◌||◌, List, ltb, eqb, Float}
-use Rattle.refusals.specs.declared.Refusal.{Refusal}
+use Rattle.refusals.specs.declared.refusal.Refusal.{Refusal}
 use Rattle.refusals.specs.Sizes.{most_in, most_out, most_batch}
-use Rattle.refusals.specs.Said.{Said, done, no}
+use Rattle.refusals.specs.Said.{Said, done}
 use Rattle.refusals.specs.Refusals.{given}
+use Rattle.refusals.specs.declared.refusal.Refusal.TheVariants.{NotAMultiple, ReadingsShort, RoomShort, TooLarge}
 use Rattle.memory.specs.Lists.{filled, part}
 use Rattle.layouts.specs.Formats.{bytes_k}
 use Rattle.layouts.specs.Counts.{weights_short}
@@ -35,12 +36,12 @@ layer_short f in_feat out_feat weights = weights_short f weights (out_feat * (in
 -- products of the stated sizes, also when batch or out_feat is 0.
 unfoldable pub layer_refusal : FormatK → Shape → (readings weights places : ℕ) → Said (Unit {0})
 layer_refusal f s readings weights places =
-    given (no 6) (oversize s)
-    (given (no 2) (not (eqb (s.in_feat % 256) 0))
+    given TooLarge (oversize s)
+    (given NotAMultiple (not (eqb (s.in_feat % 256) 0))
     (given (layer_short f s.in_feat s.out_feat weights)
     (ltb weights (weight_bytes f s.in_feat s.out_feat))
-    (given (no 4) (ltb readings (s.batch * s.in_feat))
-    (given (no 5) (ltb places (s.batch * s.out_feat))
+    (given ReadingsShort (ltb readings (s.batch * s.in_feat))
+    (given RoomShort (ltb places (s.batch * s.out_feat))
     done))))
 
 -- row b of the readings

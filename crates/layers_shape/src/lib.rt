@@ -2,12 +2,11 @@
 #![tactic(auto)]
 
 ghost use Rattle.std.specs.Prelude.{◌≡◌, ◌≤◌};
-ghost use Rattle.refusals.specs.Said.{check_says};
 ghost use Rattle.refusals.specs.Sizes.{most_in, most_out};
-ghost use Rattle.layers_shape.specs.Shapes.{oversize, row_bytes, weight_bytes, layer_short, layer_refusal};
+ghost use Rattle.layers_shape.specs.Shapes.{shape, oversize, row_bytes, weight_bytes, layer_short, layer_refusal};
 
 use layouts::{Format, FormatK};
-use refusals::{Check, Refusal};
+use refusals::Refusal;
 
 // `batch` rows of in_feat readings, out_feat rows of in_feat weights, and an output for each pair of them.
 #[derive(Clone, Copy)]
@@ -17,7 +16,21 @@ pub struct Shape {
     pub out_feat: usize,
 }
 
+impl Shape {
+    // The shape of a call's three sizes.
+    pub fn of(batch: usize, in_feat: usize, out_feat: usize) -> Shape
+        ensures { result ≡ shape batch in_feat out_feat }
+    {
+        Shape {
+            batch,
+            in_feat,
+            out_feat,
+        }
+    }
+}
+
 // Whether a size is over its most.
+#[tactic(auto, unfolding(crate::specs::Shapes::oversize))]
 pub fn is_oversize(s: Shape) -> bool
     ensures { result ≡ oversize s }
 {
@@ -56,29 +69,30 @@ pub fn layer_short(format: FormatK, in_feat: usize, out_feat: usize, weights: us
 
 // Why a layer of this shape says no, given so many readings, weight bytes and output places: 6, 2, 3, 4, 5, in this
 // order.
+#[tactic(auto, using(crate::proofs::Fits::in_sizes, crate::proofs::Fits::product_small), unfolding(crate::specs::Shapes::layer_refusal, refusals::specs::Refusals::given))]
 pub fn layer_refusal(
     format: FormatK,
     s: Shape,
     readings: usize,
     weights: usize,
     places: usize,
-) -> Check
-    ensures { check_says result ≡ layer_refusal format s readings weights places }
+) -> Result<(), Refusal>
+    ensures { result ≡ layer_refusal format s readings weights places }
 {
     if is_oversize(s) {
-        return Check::Refused(refusals::TOO_LARGE);
+        return Err(Refusal::TooLarge);
     }
     if s.in_feat % 256 != 0 {
-        return Check::Refused(refusals::NOT_A_MULTIPLE);
+        return Err(Refusal::NotAMultiple);
     }
     if weights < weight_bytes(format, s.in_feat, s.out_feat) {
-        return Check::Refused(layer_short(format, s.in_feat, s.out_feat, weights));
+        return Err(layer_short(format, s.in_feat, s.out_feat, weights));
     }
     if readings < s.batch * s.in_feat {
-        return Check::Refused(refusals::READINGS_SHORT);
+        return Err(Refusal::ReadingsShort);
     }
     if places < s.batch * s.out_feat {
-        return Check::Refused(refusals::ROOM_SHORT);
+        return Err(Refusal::RoomShort);
     }
-    Check::Passed
+    Ok(())
 }

@@ -9,12 +9,11 @@ use lib.ListN.{length, get_or, take, length-set}
 use lib.Seq.{get_or-set_other}
 use lib.Ieee.{Float}
 use borrow.Author.Tests.{eq-eqb, ne_eqb}
-use Rattle.refusals.specs.Said.{value, done}
+use Rattle.refusals.specs.Said.{done}
 use Rattle.refusals.proofs.Laws.{else_later, carried_value}
+use Rattle.std.proofs.Common.{Ok}
 use Rattle.layouts.specs.Formats.{format_named}
 use Rattle.layouts.specs.declared.format.FormatK.{FormatK}
-use Rattle.layouts.specs.declared.format.Named.{Named}
-use Rattle.layouts.specs.declared.format.Named.TheVariants.{Known}
 use Rattle.stepped_shape.specs.declared.shape.Layer.{Layer}
 use Rattle.stepped_shape.specs.Layer.{Memory, chunks, pieces, place, open_count, open_of}
 use Rattle.stepped_shape.specs.Refusals.{work_refusal}
@@ -93,11 +92,11 @@ module _ (f : FormatK) (l : Layer) (w : List ℕ) (x : List Float) (budget : ℕ
       record { did = h.did; left = h.kept (l.out_feat * chunks l) (omega arith); len = h.len }
 
   -- what run says where nothing is refused: the loops' work k, and the marks counted after them
-  pub run_done : {n : Named} (k : Work) (left : ℕ) → n ≡ format_named l.format → n ≡ Known f
+  pub run_done : (k : Work) (left : ℕ) → Ok f ≡ format_named l.format
       → work_refusal f l (length w) (length x) (length m.slots) (length m.marks) ≡ done
       → k ≡ run_work f l w x budget m → left ≡ open_of l k.holds.marks
-      → (value (ran k.done left), k.holds) ≡ run_says l w x budget m
+      → (Ok (ran k.done left), k.holds) ≡ run_says l w x budget m
   unfolding run_says
-  run_done k left t n ok e g =
+  run_done k left named ok e g =
       let d = ap (λ (u : Work). u.done) e ∙ (run_counts (workable _ _ _ _ _ _ ok).has_room.marks_enough).did in
-      (cc) ∙ sym (carried_value _ _ _ _ (else_later _ _ ok)) ∙ by_known _ _ t n
+      (cc) ∙ sym (carried_value _ _ _ _ (else_later _ _ ok)) ∙ by_known _ _ named

@@ -1,8 +1,8 @@
 -- What `open`, `run` and `close` say and what lent memory holds then: functions of the layer, its weights and readings,
 -- and the memory that came in. Definitions only.
 use Prim.{Unit}
-use Rattle.std.specs.Prelude.{ℕ, zero, suc, ◌+◌, min, ◌&&◌, cond, List, ltb, eqb, length, get_or, set, Float}
-use Rattle.refusals.specs.Said.{Said, value}
+use Rattle.std.specs.Prelude.{ℕ, zero, suc, ◌+◌, min, ◌&&◌, cond, List, ltb, eqb, length, get_or, set, Float, Ok}
+use Rattle.refusals.specs.Said.{Said}
 use Rattle.refusals.specs.Refusals.{or_else, carried_out}
 use Rattle.memory.specs.Lists.{filled}
 use Rattle.numbers.specs.Steps.{nought}
@@ -10,7 +10,8 @@ use Rattle.layouts.specs.Formats.{format_named}
 use Rattle.layouts.specs.declared.format.FormatK.{FormatK}
 use Rattle.stepped_shape.specs.declared.shape.Layer.{Layer}
 use Rattle.stepped_shape.specs.Layer.{Memory, memory, chunks, pieces, place, open_of}
-use Rattle.stepped_shape.specs.Progress.{Ran, ran}
+use Rattle.stepped_shape.specs.declared.progress.Progress.{Progress}
+use Rattle.stepped_shape.specs.Progress.{ran}
 use Rattle.stepped_shape.specs.Refusals.{by_format, open_refusal, work_refusal, close_refusal}
 use Rattle.stepped_pieces.specs.Pieces.{worked, row_met}
 
@@ -63,13 +64,13 @@ unfoldable pub run_work : FormatK → Layer → List ℕ → List Float → ℕ 
 run_work f l w x budget m = visit_rows f l w x budget l.out_feat (work m 0)
 
 -- `run`: done is the smaller of budget and pieces open before, and left is how many pieces are open after
-unfoldable pub run_says : Layer → List ℕ → List Float → ℕ → Memory → Said Ran × Memory
+unfoldable pub run_says : Layer → List ℕ → List Float → ℕ → Memory → Said Progress × Memory
 run_says l w x budget m =
     by_format (format_named l.format) m (λ f.
     let after = (run_work f l w x budget m).holds in
     carried_out
     (or_else (work_refusal f l (length w) (length x) (length m.slots) (length m.marks))
-    (value (ran (min budget (open_of l m.marks)) (open_of l after.marks))))
+    (Ok (ran (min budget (open_of l m.marks)) (open_of l after.marks))))
     after m)
 
 -- ---- close writes that row's output, its slots met in the tree; the slots stay as they are, and closing again is

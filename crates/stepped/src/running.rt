@@ -1,12 +1,11 @@
 // Run: the next open pieces, as many as a budget allows.
 ghost use Rattle.std.specs.Prelude.{◌≡◌, length};
 ghost use Rattle.stepped_shape.specs.Layer.{memory};
-ghost use Rattle.stepped_shape.specs.Progress.{progress_says};
 ghost use Rattle.stepped_shape.specs.Inner.{LayerReady, PieceRoom};
 ghost use Rattle.stepped.specs.Says.{work, run_work, run_says};
 
-use layouts::{FormatK, Named};
-use refusals::Check;
+use layouts::FormatK;
+use refusals::Refusal;
 use stepped_pieces::work_one;
 use stepped_shape::{Layer, Progress, chunks_of, count_open, pieces_of, place_of, work_refusal};
 
@@ -53,26 +52,15 @@ pub fn run(
     budget: usize,
     slots: &mut [f32],
     marks: &mut [u8],
-) -> Progress
-    ensures { (progress_says result, memory slots.new marks.new)
+) -> Result<Progress, Refusal>
+    ensures { (result, memory slots.new marks.new)
         ≡ run_says l w.now x.now budget
         (memory slots.old marks.old) }
 {
-    let Named::Known(format) = layouts::format_named(l.format) else {
-        return Progress::Refused(refusals::UNKNOWN);
-    };
-    if let Check::Refused(refusal) = work_refusal(
-        format,
-        l,
-        w.len(),
-        x.len(),
-        slots.len(),
-        marks.len(),
-    ) {
-        return Progress::Refused(refusal);
-    }
+    let format = FormatK::try_from(l.format)?;
+    work_refusal(format, l, w.len(), x.len(), slots.len(), marks.len())?;
     let done = work_open(format, l, w, x, budget, slots, marks);
     let n = pieces_of(l);
     let left = count_open(&marks[..n]);
-    Progress::Ran { done, left }
+    Ok(Progress { done, left })
 }

@@ -11,15 +11,15 @@ use native.Mathlib.Decide.{dec_lt, ℕ_discrete}
 use lib.ListN.{length, get_or, drop, set, length-set, length-take, length-drop, get_or-append}
 use lib.Seq.{get_or-set_same, get_or-set_other, take_at}
 use lib.Ieee.{Float, nan}
-use Rattle.refusals.specs.Said.{Said, value, refused, done}
+use Rattle.refusals.specs.Said.{Said, done}
 use Rattle.refusals.proofs.Laws.{else_first, else_later}
+use Rattle.std.proofs.Common.{Ok, Err}
 use Rattle.memory.specs.Lists.{table, filled, part}
 use Rattle.memory.proofs.Filled.{length_table, get_or_table, table_ext, length_filled, part_at}
 use Rattle.layouts.specs.Formats.{format_named}
 use Rattle.layouts.specs.Weights.{weight_at}
 use Rattle.layouts.specs.declared.format.FormatK.{FormatK}
 use Rattle.layouts.specs.declared.format.Format.TheVariants.{OfK}
-use Rattle.layouts.specs.declared.format.Named.TheVariants.{Known}
 use Rattle.sums_tree.specs.Tree.{tree}
 use Rattle.sums.specs.Rows.{row_sum}
 use Rattle.dots_fused.proofs.Decoded.{row_decoded}
@@ -143,13 +143,13 @@ module _ (f : FormatK) (l : Layer) (w : List ℕ) (x : List Float) where
     pub summed : Summed s.holds
     pub demand : Demand3 f l w x s
 
-  module _ (named : format_named l.format ≡ Known f) where
+  module _ (named : format_named l.format ≡ Ok f) where
     -- ---- piece
 
     good_piece : (s : HistoryState) (row c : ℕ) → Good s → (r : Said (Unit {0}))
         → piece_refusal f l (length w) (length x) (length s.holds.slots) s.holds.marks row c ≡ r → Good (call l w x s (piece row c))
     unfolding call piece_says open_of
-    good_piece s row c g (value tt) z =
+    good_piece s row c g (Ok tt) z =
         let p = pieceable _ _ _ _ _ _ _ _ z in
         let i = p.inside in
         let m = s.holds in
@@ -159,8 +159,8 @@ module _ (f : FormatK) (l : Layer) (w : List ℕ) (x : List Float) where
           summed = sums_work row c m i g.summed;
           demand = record { rows = g.demand.rows; counted = omega (arith, less, g.demand.counted) };
         })
-    good_piece s row c g (refused why) z =
-        let e : piece_says l w x row c s.holds ≡ (refused why, s.holds) = known_refused _ _ _ named why z in
+    good_piece s row c g (Err why) z =
+        let e : piece_says l w x row c s.holds ≡ (Err why, s.holds) = known_refused _ _ _ named why z in
         rw e (record { summed = g.summed; demand = record { rows = g.demand.rows; counted = omega (arith, g.demand.counted) } })
 
     -- ---- run
@@ -168,16 +168,16 @@ module _ (f : FormatK) (l : Layer) (w : List ℕ) (x : List Float) where
     good_run : (s : HistoryState) (budget : ℕ) → Good s → (r : Said (Unit {0}))
         → work_refusal f l (length w) (length x) (length s.holds.slots) (length s.holds.marks) ≡ r → Good (call l w x s (run budget))
     unfolding call run_says
-    good_run s budget g (value tt) z =
+    good_run s budget g (Ok tt) z =
         let r = run_counts f l w x budget s.holds g.summed.marks_fit in
         let after = (run_work f l w x budget s.holds).holds in
-        let e : run_says l w x budget s.holds ≡ (value (ran (min budget (open_of l s.holds.marks)) (open_of l after.marks)), after) = known_value _ _ _ named _ (else_later _ _ z) in
+        let e : run_says l w x budget s.holds ≡ (Ok (ran (min budget (open_of l s.holds.marks)) (open_of l after.marks)), after) = known_value _ _ _ named _ (else_later _ _ z) in
         rw e (record {
           summed = sums_run budget s.holds g.summed;
           demand = record { rows = g.demand.rows; counted = omega (arith, r.did, r.left, g.demand.counted) };
         })
-    good_run s budget g (refused why) z =
-        let e : run_says l w x budget s.holds ≡ (refused why, s.holds) = known_refused _ _ _ named why (else_first _ _ why z) in
+    good_run s budget g (Err why) z =
+        let e : run_says l w x budget s.holds ≡ (Err why, s.holds) = known_refused _ _ _ named why (else_first _ _ why z) in
         rw e (record { summed = g.summed; demand = record { rows = g.demand.rows; counted = omega (arith, g.demand.counted) } })
 
     -- ---- close
@@ -195,11 +195,11 @@ module _ (f : FormatK) (l : Layer) (w : List ℕ) (x : List Float) where
     good_close : (s : HistoryState) (row : ℕ) → Good s → (r : Said (Unit {0}))
         → close_refusal l (length s.holds.slots) s.holds.marks (length s.outputs) row ≡ r → Good (call l w x s (close row))
     unfolding call close_says
-    good_close s row g (value tt) z =
+    good_close s row g (Ok tt) z =
         let e : close_says l row s.holds s.outputs ≡ (done, set s.outputs row (row_met l s.holds.slots row)) = known_value _ _ _ named tt z in
         rw e (record { summed = g.summed; demand = record { rows = λ r i. close_rows s row g z r i (ℕ_discrete r row); counted = g.demand.counted } })
-    good_close s row g (refused why) z =
-        let e : close_says l row s.holds s.outputs ≡ (refused why, s.outputs) = known_refused _ _ _ named why z in
+    good_close s row g (Err why) z =
+        let e : close_says l row s.holds s.outputs ≡ (Err why, s.outputs) = known_refused _ _ _ named why z in
         rw e (record { summed = g.summed; demand = record { rows = g.demand.rows; counted = g.demand.counted } })
 
     good_call : (s : HistoryState) (c : Call) → Good s → Good (call l w x s c)
@@ -236,7 +236,7 @@ module _ (f : FormatK) (l : Layer) (w : List ℕ) (x : List Float) where
         no_mark_lem p h = get_or-append (table no_mark (pieces l)) (drop (pieces l) m.marks) 0 p (rw length_table h) ∙ get_or_table no_mark (pieces l) p 0 h
 
 -- DEMAND 3
-pub demand3 : (f : FormatK) (l : Layer) (w : List ℕ) (x : List Float) → format_named l.format ≡ Known f → (m : Memory) (outputs : List Float)
+pub demand3 : (f : FormatK) (l : Layer) (w : List ℕ) (x : List Float) → format_named l.format ≡ Ok f → (m : Memory) (outputs : List Float)
     → (open_says l m).0 ≡ done → (cs : List Call) → Demand3 f l w x (calls l w x (opened l m outputs) cs)
 unfolding open_says
 demand3 f l w x named m outputs h cs = (good_calls f l w x named (opened l m outputs) cs (good_open f l w x named m outputs (sym (known_said _ _ _ named) ∙ h))).demand

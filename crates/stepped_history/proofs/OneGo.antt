@@ -7,7 +7,6 @@ use native.Mathlib.Nat.{mul-zero, le_refl}
 use lib.ListN.{length, drop, length-drop}
 use lib.Seq.{length-take-le}
 use lib.Ieee.{Float}
-use Rattle.refusals.specs.Said.{value}
 use Rattle.memory.specs.Lists.{table}
 use Rattle.memory.proofs.Filled.{length_table}
 use Rattle.memory.proofs.Parts.{within}
@@ -28,6 +27,7 @@ use Rattle.stepped_shape.specs.Inner.{LayerReady}
 use Rattle.stepped_shape.proofs.Shapes.{shaped, row_enough}
 use Rattle.stepped_pieces.specs.Pieces.{row_met}
 use Rattle.stepped_history.specs.History.{decoded_row, in_one_go}
+use Rattle.std.proofs.Common.{Ok}
 
 -- ---- an in_feat of 0 has no pieces, and every row closes at +0.0
 
@@ -50,7 +50,7 @@ closes_at_nought l slots row e = met_nothing _ (chunks l) (no_chunks l e)
 -- ---- a row of a layer that is worked: what `canonical_dot_pub` says of the row decoded, and the fused row dots of the row's bytes
 
 module _ (f : FormatK) (l : Layer) (w : List ℕ) (x : List Float) (row : ℕ) (ready : LayerReady f l (length w) (length x)) (inside : row < l.out_feat) where
-  pub dot_in_one_go : dot_says x (decoded_row f l w row) l.in_feat ≡ value (in_one_go f l w x row)
+  pub dot_in_one_go : dot_says x (decoded_row f l w row) l.in_feat ≡ Ok (in_one_go f l w x row)
   unfolding in_one_go decoded_row
   dot_in_one_go = dot_answers x (decoded_row f l w row) l.in_feat (shaped l ready.shape).inputs ready.readings_enough (rw length_table (le_refl _))
 
@@ -62,6 +62,6 @@ module _ (f : FormatK) (l : Layer) (w : List ℕ) (x : List Float) (row : ℕ) (
   row_whole : length (weight_row f w l.in_feat row) % bytes_k f ≡ 0
   row_whole = (row_values f l.in_feat _ (shaped l ready.shape).whole row_length).0
 
-  pub fused_in_one_go : fused_says f x (weight_row f w l.in_feat row) l.in_feat ≡ value (in_one_go f l w x row)
+  pub fused_in_one_go : fused_says f x (weight_row f w l.in_feat row) l.in_feat ≡ Ok (in_one_go f l w x row)
   unfolding decoded_row
   fused_in_one_go = dot_of_weights f x (weight_row f w l.in_feat row) l.in_feat row_whole (row_enough l ready.shape f _ row_length) ∙ dot_in_one_go

@@ -1,10 +1,10 @@
 -- Demand 3: the history of a layer, which is an open that was not refused and then any calls of piece, run and close,
 -- refused ones among them, over the same buffers, shape, readings and weights. Definitions only.
 use Prim.{Unit}
-use Rattle.std.specs.Prelude.{ℕ, ◌+◌, ◌≡◌, get_or, Float}
+use Rattle.std.specs.Prelude.{ℕ, ◌+◌, ◌≡◌, get_or, Float, Ok, Err}
 use mathlib.Core.List.{List, [], ◌∷◌, Memᴰ}
 use Rattle.std.specs.Float.{nan}
-use Rattle.refusals.specs.Said.{Said, value, refused}
+use Rattle.refusals.specs.Said.{Said}
 use Rattle.memory.specs.Lists.{table}
 use Rattle.layouts.specs.Weights.{weight_at}
 use Rattle.layouts.specs.declared.format.FormatK.{FormatK}
@@ -15,7 +15,7 @@ use Rattle.layers_shape.specs.Shapes.{weight_row}
 use Rattle.stepped_shape.specs.declared.shape.Layer.{Layer}
 use Rattle.stepped_shape.specs.Layer.{Memory, pieces, open_of}
 use Rattle.stepped_pieces.specs.Pieces.{piece_says}
-use Rattle.stepped_shape.specs.Progress.{Ran}
+use Rattle.stepped_shape.specs.declared.progress.Progress.{Progress}
 use Rattle.stepped.specs.Says.{open_says, run_says, close_says}
 
 -- ---- the row in one go
@@ -45,18 +45,18 @@ pub record HistoryState : Type 0 where
 
 -- a piece that says it is done was accepted
 abbrev pub accepted_by : Said (Unit {0}) → ℕ
-accepted_by (value v) = 1
-accepted_by (refused why) = 0
+accepted_by (Ok v) = 1
+accepted_by (Err why) = 0
 
 -- a piece that run does counts as accepted
-abbrev pub accepted_by_run : Said Ran → ℕ
-accepted_by_run (value counts) = counts.done
-accepted_by_run (refused why) = 0
+abbrev pub accepted_by_run : Said Progress → ℕ
+accepted_by_run (Ok counts) = counts.done
+accepted_by_run (Err why) = 0
 
 -- a close that says it is done closed its row
 abbrev pub closed_by : Said (Unit {0}) → ℕ → List ℕ → List ℕ
-closed_by (value v) row rows = row ∷ rows
-closed_by (refused why) row rows = rows
+closed_by (Ok v) row rows = row ∷ rows
+closed_by (Err why) row rows = rows
 
 -- one call
 unfoldable pub call : Layer → List ℕ → List Float → HistoryState → Call → HistoryState

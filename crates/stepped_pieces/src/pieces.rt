@@ -1,12 +1,11 @@
 // Piece: one chunk of one row, into its own slot.
 ghost use Rattle.std.specs.Prelude.{◌≡◌, length};
-ghost use Rattle.refusals.specs.Said.{outcome_says};
 ghost use Rattle.stepped_shape.specs.Layer.{memory};
 ghost use Rattle.stepped_shape.specs.Inner.{LayerReady, PieceRoom, InLayer};
 ghost use Rattle.stepped_pieces.specs.Pieces.{sum_at, worked, piece_says};
 
-use layouts::{FormatK, Named};
-use refusals::{Check, Outcome};
+use layouts::FormatK;
+use refusals::Refusal;
 use stepped_shape::{Layer, piece_refusal, place_of};
 
 // The sum of one chunk of one row.
@@ -51,26 +50,13 @@ pub fn piece(
     chunk: usize,
     slots: &mut [f32],
     marks: &mut [u8],
-) -> Outcome
-    ensures { (outcome_says result, memory slots.new marks.new)
+) -> Result<(), Refusal>
+    ensures { (result, memory slots.new marks.new)
         ≡ piece_says l w.now x.now row chunk
         (memory slots.old marks.old) }
 {
-    let Named::Known(format) = layouts::format_named(l.format) else {
-        return Outcome::Refused(refusals::UNKNOWN);
-    };
-    if let Check::Refused(refusal) = piece_refusal(
-        format,
-        l,
-        w.len(),
-        x.len(),
-        slots.len(),
-        marks,
-        row,
-        chunk,
-    ) {
-        return Outcome::Refused(refusal);
-    }
+    let format = FormatK::try_from(l.format)?;
+    piece_refusal(format, l, w.len(), x.len(), slots.len(), marks, row, chunk)?;
     work_one(format, l, w, x, row, chunk, slots, marks);
-    Outcome::Done
+    Ok(())
 }

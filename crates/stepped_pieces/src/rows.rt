@@ -18,10 +18,8 @@ pub fn meet(l: Layer, row: usize, slots: &[f32]) -> f32
         return slots[at];
     }
     let mut sums = [0.0f32; sums::MOST_CHUNKS];
-    let mut c: usize = 0;
-    while c < n {
+    for c in 0..n {
         sums[c] = slots[at + c];
-        c += 1;
     }
     sums_tree::canonical_combine(&mut sums[..n])
 }

@@ -1,9 +1,8 @@
 // What run answers.
-use refusals::Refusal;
 
-// How many pieces it did and how many stay open, or why it says no.
+// How many pieces it did, and how many stay open.
 #[derive(Clone, Copy)]
-pub enum Progress {
-    Ran { done: usize, left: usize },
-    Refused(Refusal),
+pub struct Progress {
+    pub done: usize,
+    pub left: usize,
 }

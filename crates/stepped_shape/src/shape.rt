@@ -14,6 +14,7 @@ pub struct Layer {
 }
 
 // The chunks of a row.
+#[tactic(auto, unfolding(crate::specs::Layer::chunks))]
 pub fn chunks_of(l: Layer) -> usize
     requires { shape_refusal l ≡ done }
     ensures { result ≡ chunks l }
@@ -22,6 +23,7 @@ pub fn chunks_of(l: Layer) -> usize
 }
 
 // The piece count.
+#[tactic(auto, using(crate::proofs::Shapes::few_pieces), unfolding(crate::specs::Layer::pieces))]
 pub fn pieces_of(l: Layer) -> usize
     requires { shape_refusal l ≡ done }
     ensures { result ≡ pieces l }

@@ -69,12 +69,11 @@ loop-chunk-preserved c =
 pub rows-preserved : goal.rows-preserved
 rows-preserved c =
     let i = c.loop-chunk in
-    let o = c in
-    let a = o.args in
-    let full : i.chunk ≡ o.chunks_of-chunks.result = omega arith in (
+    let a = c.args in
+    let full : i.chunk ≡ c.chunks_of-chunks.result = omega arith in (
       omega arith,
-      kept_row a.format a.l a.w.now a.x.now a.budget _ _ _ o.rows.row i.chunk _
-          o.rows.invariant.1 (full ∙ o.chunks_of-chunks.ensures) i.invariant.1,
+      kept_row a.format a.l a.w.now a.x.now a.budget _ _ _ c.rows.row i.chunk _
+          c.rows.invariant.1 (full ∙ c.chunks_of-chunks.ensures) i.invariant.1,
     )
 
 pub shape_of-slots-after-rows : goal.shape_of-slots-after-rows
@@ -86,9 +85,8 @@ shape_of-marks-after-rows c = c.rows.invariant.1.marks_len
 pub returns-after-rows : goal.returns-after-rows
 unfolding run_work
 returns-after-rows c =
-    let o = c in
-    let full : o.rows.row ≡ o.args.l.out_feat = omega arith in
-    simp full at o.rows.invariant.1.state
+    let full : c.rows.row ≡ c.args.l.out_feat = omega arith in
+    simp full at c.rows.invariant.1.state
 
 pub shape_of-slots-then-done-budget : goal.shape_of-slots-then-done-budget
 shape_of-slots-then-done-budget c = c.loop-chunk.invariant.1.slots_len ∙ c.rows.invariant.1.slots_len
@@ -99,10 +97,8 @@ shape_of-marks-then-done-budget c = c.loop-chunk.invariant.1.marks_len ∙ c.row
 pub returns-then-done-budget : goal.returns-then-done-budget
 unfolding run_work
 returns-then-done-budget c =
-    let i = c in
-    let o = i in
-    let a = o.args in
-    let e = i.loop-chunk.invariant.1.state ∙ ap (visit_row a.format a.l a.w.now a.x.now a.budget o.rows.row i.loop-chunk.chunk) o.rows.invariant.1.state in
+    let a = c.args in
+    let e = c.loop-chunk.invariant.1.state ∙ ap (visit_row a.format a.l a.w.now a.x.now a.budget c.rows.row c.loop-chunk.chunk) c.rows.invariant.1.state in
     sym
-    (stopped a.format a.l a.w.now a.x.now a.budget _ (omega arith) a.l.out_feat o.rows.row i.loop-chunk.chunk _
-    (omega arith) (omega (arith, o.chunks_of-chunks.ensures)) (sym e))
+    (stopped a.format a.l a.w.now a.x.now a.budget _ (omega arith) a.l.out_feat c.rows.row c.loop-chunk.chunk _
+    (omega arith) (omega (arith, c.chunks_of-chunks.ensures)) (sym e))

@@ -33,20 +33,18 @@ slice_bounds-chunk_dot-end c = omega (arith, row_in _ _ _ _ _ c.row_bytes-size.e
 pub chunk_dot-requires : goal.chunk_dot-requires
 unfolding chunks
 chunk_dot-requires c =
-    let b = c in
     let a = c.args in
-    let size = b.row_bytes-size.result in (
+    let size = c.row_bytes-size.result in (
       (shaped _ c.requires.0.shape).inputs,
       c.requires.0.readings_enough,
-      row_enough a.l c.requires.0.shape a.format _ (part_length a.w.now (a.row * size) size (a.row * size + size) refl (row_in _ _ _ _ _ c.row_bytes-size.ensures c.requires.1.row_in c.requires.0.weights_enough) ∙ b.row_bytes-size.ensures),
+      row_enough a.l c.requires.0.shape a.format _ (part_length a.w.now (a.row * size) size (a.row * size + size) refl (row_in _ _ _ _ _ c.row_bytes-size.ensures c.requires.1.row_in c.requires.0.weights_enough) ∙ c.row_bytes-size.ensures),
       c.requires.1.chunk_in,
     )
 
 pub returns : goal.returns
 unfolding sum_at
 returns c =
-    let b = c in
     let a = c.args in
     c.chunk_dot.ensures
     ∙ ap (λ (v : List ℕ). chunk_at (terms a.format a.x.now v) a.l.in_feat a.chunk)
-    (lent_part a.w.now a.row b.row_bytes-size.result (row_bytes a.format a.l.in_feat) b.row_bytes-size.ensures)
+    (lent_part a.w.now a.row c.row_bytes-size.result (row_bytes a.format a.l.in_feat) c.row_bytes-size.ensures)

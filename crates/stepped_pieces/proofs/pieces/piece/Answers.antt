@@ -6,29 +6,19 @@ use Rattle.stepped_shape.proofs.Says.{by_unknown, by_known}
 use Rattle.stepped_pieces.specs.Pieces.{piece_says}
 use Rattle.stepped_pieces.proofs.pieces.piece.Goals as goal
 
-pub returns-in_default : goal.returns-in_default
+pub returns-in_err-format : goal.returns-in_err-format
 unfolding piece_says
-returns-in_default c = by_unknown _ _ c.format_named.ensures c.in_default.is
+returns-in_err-format c = by_unknown _ _ c.in_err-format.ensures c.from_residual.ensures.1
 
-pub returns-in-Refused : goal.returns-in-Refused
+pub returns-in_err-piece_refusal : goal.returns-in_err-piece_refusal
 unfolding piece_says
-returns-in-Refused c =
-    let p = c in
-    let f = p in
-    refused_out _ _ p.piece_refusal.ensures c.in-Refused.is ∙ by_known _ _ f.format_named.ensures f.in-Known.is
+returns-in_err-piece_refusal c = refused_out _ _ c.in_err-piece_refusal.ensures c.from_residual-in_err-piece_refusal.ensures.1 ∙ by_known _ _ c.in_ok-format.ensures
 
 pub work_one-requires : goal.work_one-requires
 work_one-requires c =
-    let e = c in
-    let p = pieceable _ _ _ _ _ _ _ _ (check_passed e.piece_refusal.ensures e.in_default-piece_refusal.is) in
+    let p = pieceable _ _ _ _ _ _ _ _ (check_passed c.in_ok-piece_refusal.ensures) in
     (p.able.ready, p.able.has_room, p.inside)
 
 pub returns : goal.returns
 unfolding piece_says
-returns c =
-    let k = c in
-    let e = k in
-    let p = e in
-    let f = p in
-    rw k.work_one.ensures
-    (done_out _ _ p.piece_refusal.ensures e.in_default-piece_refusal.is ∙ by_known _ _ f.format_named.ensures f.in-Known.is)
+returns c = rw c.work_one.ensures (done_out _ _ c.in_ok-piece_refusal.ensures ∙ by_known _ _ c.in_ok-format.ensures)

@@ -18,9 +18,6 @@ use Rattle.stepped_shape.specs.declared.shape.Layer.{Layer}
 use Rattle.stepped_shape.specs.Refusals.{shape_refusal}
 use Rattle.stepped_pieces.proofs.rows.meet.Goals as goal
 
-pub chunks_of-n-requires : goal.chunks_of-n-requires
-chunks_of-n-requires c = c.requires.0
-
 -- the row's slots lie within the layer's, and there are 16 at most
 row_in : (l : Layer) (row n room : ℕ) → n ≡ chunks l → shape_refusal l ≡ done → row < l.out_feat → pieces l ≤ room
     → (row * n + n ≤ room) × (n ≤ 16) × (pieces l ≤ 1048576)
@@ -49,15 +46,14 @@ filled_front f xs ys i n e h = ap (take n) (h ∙ ap (filled f xs) e) ∙ take_a
 pub returns-then-n-eq1 : goal.returns-then-n-eq1
 unfolding row_met place
 returns-then-n-eq1 c =
-    let k = c in
-    let a = k.args in
-    let n = k.chunks_of-n in
+    let a = c.args in
+    let n = c.chunks_of-n in
     sym
     (tree_of_one (λ i. get_or a.slots.now (a.row * chunks a.l + i) nan) (chunks a.l) (sym n.ensures ∙ c.if-n-eq1.true)
     ∙ ap (λ (i : ℕ). get_or a.slots.now i nan) (add-zero (a.row * chunks a.l) ∙ ap (λ (m : ℕ). a.row * m) (sym n.ensures)))
 
 pub loop-c-init : goal.loop-c-init
-loop-c-init c = (omega arith, filling_start _ _ 16 refl)
+loop-c-init c = filling_start _ _ 16 refl
 
 pub overflow_add-sums : goal.overflow_add-sums
 overflow_add-sums c = omega (arith, row_in _ _ _ _ c.chunks_of-n.ensures c.requires.0 c.requires.1 c.requires.2)
@@ -74,29 +70,21 @@ offset_bounds-sums-c c = omega (arith, row_in _ _ _ _ c.chunks_of-n.ensures c.re
 pub bounds-sums-c : goal.bounds-sums-c
 bounds-sums-c c = omega (arith, row_in _ _ _ _ c.chunks_of-n.ensures c.requires.0 c.requires.1 c.requires.2)
 
-pub overflow_add-c : goal.overflow_add-c
-overflow_add-c c = omega (arith, row_in _ _ _ _ c.chunks_of-n.ensures c.requires.0 c.requires.1 c.requires.2)
-
 pub loop-c-preserved : goal.loop-c-preserved
-loop-c-preserved c =
-    let k = c in
-    (omega arith, filling_more _ _ 16 k.loop-c.sums k.loop-c.c _ refl k.loop-c.invariant.1 (omega (arith, row_in _ _ _ _ c.chunks_of-n.ensures c.requires.0 c.requires.1 c.requires.2)) refl)
+loop-c-preserved c = filling_more _ _ 16 c.loop-c.sums c.loop-c.c _ refl c.loop-c.invariant (omega (arith, row_in _ _ _ _ c.chunks_of-n.ensures c.requires.0 c.requires.1 c.requires.2)) refl
 
 pub slice_bounds-sums-end : goal.slice_bounds-sums-end
-slice_bounds-sums-end c = let k = c in omega (arith, row_in _ _ _ _ c.chunks_of-n.ensures c.requires.0 c.requires.1 c.requires.2, k.loop-c.invariant.1.2)
+slice_bounds-sums-end c = omega (arith, row_in _ _ _ _ c.chunks_of-n.ensures c.requires.0 c.requires.1 c.requires.2, c.loop-c.invariant.2)
 
 pub slice_bounds-canonical_combine-end : goal.slice_bounds-canonical_combine-end
 slice_bounds-canonical_combine-end c =
-    let room : c.chunks_of-n.result ≤ length c.loop-c.sums = omega (arith, row_in _ _ _ _ c.chunks_of-n.ensures c.requires.0 c.requires.1 c.requires.2, c.loop-c.invariant.1.2) in
+    let room : c.chunks_of-n.result ≤ length c.loop-c.sums = omega (arith, row_in _ _ _ _ c.chunks_of-n.ensures c.requires.0 c.requires.1 c.requires.2, c.loop-c.invariant.2) in
     sym (length-take-le _ _ room)
 
 pub returns : goal.returns
 unfolding row_met place
 returns c =
-    let q = c in
-    let k = q in
-    let n = k.chunks_of-n in
-    let a = k.args in
-    ap (λ (p : Float × List Float). p.0) q.canonical_combine.ensures
-    ∙ ap tree (filled_front _ _ k.loop-c.sums k.loop-c.c n.result (omega arith) k.loop-c.invariant.1.0)
-    ∙ ap (λ (m : ℕ). tree (table (λ i. get_or a.slots.now (a.row * m + i) nan) m)) n.ensures
+    let a = c.args in
+    ap (λ (p : Float × List Float). p.0) c.canonical_combine.ensures
+    ∙ ap tree (filled_front _ _ c.loop-c.sums c.loop-c.c c.chunks_of-n.result (omega arith) c.loop-c.invariant.0)
+    ∙ ap (λ (m : ℕ). tree (table (λ i. get_or a.slots.now (a.row * m + i) nan) m)) c.chunks_of-n.ensures

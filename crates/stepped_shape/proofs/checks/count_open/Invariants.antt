@@ -1,12 +1,9 @@
--- `checks::count_open` meets its contract: after i marks n of them are open. Assumes nothing.
+-- `checks::count_open` meets its contract: after some marks, n of them are open. Assumes nothing.
 use mathlib.Core.Path.{◌≡◌}
-use Prim.Native.Nat.{◌≤◌, ◌-◌}
-use lib.ListN.{length, take}
+use Prim.Native.Nat.{◌≤◌}
+use lib.ListN.{take}
 use Rattle.stepped_shape.specs.Layer.{open_count}
 use Rattle.stepped_shape.proofs.checks.count_open.Given as goal
 
-abbrev pub invariant-loop-i : goal.invariant-loop-i
-invariant-loop-i l = (l.i ≤ length l.marks) × (l.n ≤ l.i) × (l.n ≡ open_count (take l.i l.marks))
-
-abbrev pub decreases-loop-i : goal.decreases-loop-i
-decreases-loop-i l = length l.marks - l.i
+abbrev pub invariant-loop-mark : goal.invariant-loop-mark
+invariant-loop-mark l = (l.n ≤ l.mark-index) × (l.n ≡ open_count (take l.mark-index l.marks))
