@@ -1,6 +1,6 @@
 -- How C is handed how a number fared when it was narrowed, and what a quantizer's scales lost. Definitions only.
-use Rattle.std.specs.Prelude.{ℕ, List, [], ◌∷◌}
-use Rattle.refusals.specs.Said.{Said, value, refused}
+use Rattle.std.specs.Prelude.{ℕ, List, [], ◌∷◌, Ok, Err}
+use Rattle.refusals.specs.Said.{Said}
 use Rattle.halves.specs.declared.how.How.{How}
 use Rattle.halves.specs.declared.how.How.TheVariants.{Exact, Cut, Flushed, SentToInfinity}
 use Rattle.halves.specs.declared.how.Narrowed.{Narrowed}
@@ -21,8 +21,8 @@ numbered_how made = (made.bits, how_number made.how)
 -- what stands in a quantizer's two counts after it: the scales flushed and the scales sent to infinity where it is done,
 -- and otherwise what stood there
 unfoldable pub lost_after : Said Lost → List ℕ → List ℕ
-lost_after (value lost) old = lost.flushed ∷ lost.infinite ∷ []
-lost_after (refused why) old = old
+lost_after (Ok lost) old = lost.flushed ∷ lost.infinite ∷ []
+lost_after (Err why) old = old
 
 -- the three of a quantizer: the number, what its output holds, the two counts
 unfoldable pub numbered_lost : {M : Type 0} → Said Lost × M → List ℕ → ℕ × (M × List ℕ)

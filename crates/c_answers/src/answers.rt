@@ -1,64 +1,75 @@
-// How an answer is handed to C: its number is returned, and its value and its block counts go through pointers.
+// How an answer is handed to C: its number is returned, and what it gives and its block counts go through pointers.
 ghost use Rattle.std.specs.Prelude.{◌≡◌};
-ghost use Rattle.refusals.specs.Said.{said_by, outcome_says};
+ghost use Rattle.refusals.specs.Said.{number};
 ghost use Rattle.c_answers.specs.Answers.{number_of, laid_out, blocks_by, blocks_after, laid_out_blocks};
 
-use refusals::{Answer, Outcome, Refusal};
+use refusals::Refusal;
 
-// The number of a call that fills lent memory: 0 where it is done, and otherwise the number that says no.
-pub fn number_of(outcome: Outcome) -> u32
-    ensures { result ≡ number_of (outcome_says outcome) }
+// The number of a call: 0 where it does not refuse, and otherwise the number that says no.
+#[tactic(auto, unfolding(crate::specs::Answers::number_of))]
+pub fn number_of<T: Drop>(answer: Result<T, Refusal>) -> u32
+    ensures { result ≡ number_of answer }
 {
-    match outcome {
-        Outcome::Done => 0,
-        Outcome::Refused(refusal) => refusal.number,
+    if let Err(refusal) = answer {
+        return refusal.number();
     }
+    0
 }
 
-// The number of a call that works out a value, which is stored where there is one.
-pub fn lay_out(answer: Answer, value: &mut f32) -> u32
-    ensures { (result, value.new) ≡ laid_out (said_by answer) value.old }
+// The number of a call that gives something, which is stored where it does not refuse.
+#[tactic(auto, unfolding(crate::specs::Answers::laid_out))]
+pub fn lay_out<T: Drop>(answer: Result<T, Refusal>, given: &mut T) -> u32
+    ensures { (result, given.new) ≡ laid_out answer given.old }
 {
     match answer {
-        Answer::Value(v) => {
-            *value = v;
+        Ok(value) => {
+            *given = value;
             0
         }
-        Answer::Refused(refusal) => refusal.number,
+        Err(refusal) => refusal.number(),
     }
 }
 
 // The number of a refusal, whose two block counts are stored where weights are short.
-pub(crate) fn refused_by(refusal: Refusal, blocks: &mut [usize; 2]) -> u32
-    ensures { (result ≡ refusal.number) × (blocks.new ≡ blocks_by refusal blocks.old) }
+#[tactic(auto, unfolding(crate::specs::Answers::blocks_by))]
+fn refused_by(refusal: Refusal, blocks: &mut [usize; 2]) -> u32
+    ensures { (result ≡ number refusal) × (blocks.new ≡ blocks_by refusal blocks.old) }
 {
-    if refusal.number == 3 {
-        *blocks = [refusal.found, refusal.needed];
+    match refusal {
+        Refusal::BlocksShort { found, needed } => *blocks = [found, needed],
+        Refusal::WeightsShort => *blocks = [0, 0],
+        _ => {}
     }
-    refusal.number
+    refusal.number()
 }
 
-// The number of a call that fills lent memory and counts the blocks of its weights.
-pub fn number_and_blocks(outcome: Outcome, blocks: &mut [usize; 2]) -> u32
-    ensures { (result ≡ number_of (outcome_says outcome))
-        × (blocks.new ≡ blocks_after (outcome_says outcome) blocks.old) }
-{
-    match outcome {
-        Outcome::Done => 0,
-        Outcome::Refused(refusal) => refused_by(refusal, blocks),
-    }
-}
-
-// The number of a call that works out a value, which is stored where there is one, and counts the blocks of its weights.
-pub fn lay_out_and_blocks(answer: Answer, value: &mut f32, blocks: &mut [usize; 2]) -> u32
-    ensures { (result, (value.new, blocks.new))
-        ≡ laid_out_blocks (said_by answer) value.old blocks.old }
+// The number of a call that counts the blocks of its weights.
+#[tactic(auto, unfolding(crate::specs::Answers::number_of, crate::specs::Answers::blocks_after))]
+pub fn number_and_blocks<T: Drop>(answer: Result<T, Refusal>, blocks: &mut [usize; 2]) -> u32
+    ensures { (result ≡ number_of answer) × (blocks.new ≡ blocks_after answer blocks.old) }
 {
     match answer {
-        Answer::Value(v) => {
-            *value = v;
+        Ok(_) => 0,
+        Err(refusal) => refused_by(refusal, blocks),
+    }
+}
+
+// The number of a call that gives something, which is stored where it does not refuse, and counts the blocks of its
+// weights.
+#[tactic(auto, unfolding(crate::specs::Answers::laid_out, crate::specs::Answers::blocks_after, crate::specs::Answers::laid_out_blocks))]
+pub fn lay_out_and_blocks<T: Drop>(
+    answer: Result<T, Refusal>,
+    given: &mut T,
+    blocks: &mut [usize; 2],
+) -> u32
+    ensures { (result, (given.new, blocks.new))
+        ≡ laid_out_blocks answer given.old blocks.old }
+{
+    match answer {
+        Ok(value) => {
+            *given = value;
             0
         }
-        Answer::Refused(refusal) => refused_by(refusal, blocks),
+        Err(refusal) => refused_by(refusal, blocks),
     }
 }

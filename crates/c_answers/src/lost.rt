@@ -1,11 +1,12 @@
 // How C is handed how a number fared when it was narrowed, and what a quantizer's scales lost.
 ghost use Rattle.std.specs.Prelude.{◌≡◌};
-ghost use Rattle.quantizers.specs.Lost.{packing_says};
 ghost use Rattle.c_answers.specs.Answers.{number_of};
 ghost use Rattle.c_answers.specs.Lost.{how_number, lost_after};
 
+use crate::answers::number_of;
 use halves::How;
-use quantizers::Packing;
+use quantizers::Lost;
+use refusals::Refusal;
 
 // The number of how a number fared: 0 exact, 1 cut, 2 flushed, 3 sent to infinity.
 pub fn number_of_how(how: How) -> u32
@@ -20,15 +21,13 @@ pub fn number_of_how(how: How) -> u32
 }
 
 // The number of a quantizer, whose two counts are stored where it is done.
-pub fn number_and_lost(packing: Packing, lost: &mut [usize; 2]) -> u32
-    ensures { (result ≡ number_of (packing_says packing))
-        × (lost.new ≡ lost_after (packing_says packing) lost.old) }
+#[tactic(auto, unfolding(crate::specs::Answers::number_of, crate::specs::Lost::lost_after))]
+pub fn number_and_lost(packing: Result<Lost, Refusal>, lost: &mut [usize; 2]) -> u32
+    ensures { (result ≡ number_of packing)
+        × (lost.new ≡ lost_after packing lost.old) }
 {
-    match packing {
-        Packing::Packed(counts) => {
-            *lost = [counts.flushed, counts.infinite];
-            0
-        }
-        Packing::Refused(refusal) => refusal.number,
+    if let Ok(counts) = packing {
+        *lost = [counts.flushed, counts.infinite];
     }
+    number_of(packing)
 }

@@ -1,3 +1,2 @@
 -- What the proofs of `exports` share, and one answer for each call.
-pub mod Handed
 pub mod Unique

@@ -4,7 +4,8 @@ use mathlib.Core.List.{List}
 use lib.Ieee.{Float}
 use Rattle.refusals.proofs.Once.{OneResult, OneCall, same, both}
 use Rattle.stepped_shape.specs.Layer.{Memory, memory}
-use Rattle.stepped_shape.specs.Progress.{Ran, ran}
+use Rattle.stepped_shape.specs.declared.progress.Progress.{Progress}
+use Rattle.stepped_shape.specs.Progress.{ran}
 use Rattle.dots_activation.specs.Blocks.{block_in}
 use Rattle.exports.proofs.activation_blocks.jambharrow_quantize_block_q8.Reads as quantize_block_q8
 use Rattle.exports.proofs.activation_blocks.jambharrow_dot_q4k_q8_block.Reads as dot_q4k_q8_block
@@ -194,7 +195,7 @@ pub piece_once : OneCall {M = Memory × List ℕ} piece.Post (λ κs s. (memory 
 piece_once κs a x y s t h k = both h k
 
 -- the number, and the two counts, the slots, the marks and the block counts that are left
-pub run_once : OneCall {M = Ran × Memory × List ℕ} running.Post (λ κs s. (ran s.1.1.1.1.1.1.1.1.0.now s.1.1.1.1.1.1.1.1.1.0.now, memory s.1.1.1.1.1.1.0.now s.1.1.1.1.1.1.1.0.now, s.1.1.1.1.1.1.1.1.1.1.0.now))
+pub run_once : OneCall {M = Progress × Memory × List ℕ} running.Post (λ κs s. (ran s.1.1.1.1.1.1.1.1.0.now s.1.1.1.1.1.1.1.1.1.0.now, memory s.1.1.1.1.1.1.0.now s.1.1.1.1.1.1.1.0.now, s.1.1.1.1.1.1.1.1.1.1.0.now))
 run_once κs a x y s t h k = both h k
 
 pub close_once : OneCall closing.Post (λ κs s. s.1.1.1.1.1.1.0.now)

@@ -1,2 +1,0 @@
--- What the proofs of `c_answers` share.
-pub mod Counted

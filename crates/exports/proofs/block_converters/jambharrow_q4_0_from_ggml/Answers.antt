@@ -1,6 +1,0 @@
--- `block_converters::jambharrow_q4_0_from_ggml` meets its contract. Assumes nothing.
-use Rattle.exports.proofs.Handed.{handed}
-use Rattle.exports.proofs.block_converters.jambharrow_q4_0_from_ggml.Goals as goal
-
-pub returns : goal.returns
-returns c = handed _ _ _ _ c.number_of.ensures c.q4_0_from_ggml.ensures

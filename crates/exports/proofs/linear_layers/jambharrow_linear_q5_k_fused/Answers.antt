@@ -1,6 +1,0 @@
--- `linear_layers::jambharrow_linear_q5_k_fused` meets its contract. Assumes nothing.
-use Rattle.exports.proofs.Handed.{handed_blocks}
-use Rattle.exports.proofs.linear_layers.jambharrow_linear_q5_k_fused.Goals as goal
-
-pub returns : goal.returns
-returns c = handed_blocks _ _ _ _ _ _ c.number_and_blocks.ensures c.linear_q5_k_fused.ensures
