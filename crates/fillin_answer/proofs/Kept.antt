@@ -1,13 +1,15 @@
 -- The layer that is kept is one that a layer record may have, and every answer keeps it so. Assumes nothing.
-use Prim.Native.Nat.{ℕ, ◌+◌, ◌-◌, ◌≤◌}
+use Prim.Native.Nat.{ℕ, ◌≤◌}
 use mathlib.Core.Path.{◌≡◌, refl, sym, ap, ◌∙◌}
 use mathlib.Core.List.{List, ◌++◌}
 use native.Mathlib.Omega.{arith}
 use lib.ListN.{length, take, drop, length-drop, take-append-drop}
 use lib.Seq.{length-take-le}
-use Rattle.refusals.specs.Said.{Said, value, refused}
+use Rattle.refusals.specs.Said.{Said}
+use Rattle.std.proofs.Common.{Ok, Err}
 use Rattle.frames.specs.Frame.{Frame, frame_of, payload_of}
-use Rattle.records.specs.Found.{Found, nothing, layer, window, warm_up}
+use Rattle.records.specs.declared.reader.Item.{Item}
+use Rattle.records.specs.declared.reader.Item.TheVariants.{End, Layer, Window, WarmUp}
 use Rattle.records.specs.Kinds.{format_in, in_feat_in, out_feat_in, weights_in, found}
 use Rattle.records.proofs.Taken.{few_weights, layer_read}
 use Rattle.stepped_shape.specs.Layer.{layer_of}
@@ -30,7 +32,7 @@ own_front xs k h =
     ∙ sym (laid_front xs (take k xs))
 
 -- a layer that was read, and its weights
-pub layer_sound : (latest : ℕ) (f : Frame) (format in_feat out_feat : ℕ) → found f latest ≡ value (layer format in_feat out_feat) → Sound (layer_of format in_feat out_feat) (length (weights_in (payload_of f)))
+pub layer_sound : (latest : ℕ) (f : Frame) (format in_feat out_feat : ℕ) → found f latest ≡ Ok (Layer format in_feat out_feat) → Sound (layer_of format in_feat out_feat) (length (weights_in (payload_of f)))
 layer_sound latest f format in_feat out_feat e =
     let p = payload_of f in
     let r = layer_read latest f format in_feat out_feat e in
@@ -49,13 +51,13 @@ layer_sound latest f format in_feat out_feat e =
 
 -- what every answer keeps
 module _ (st : State) (w s : List ℕ) (h : Sound st.layer st.weight_bytes) where
-  carried_found : (said : Said Found) → found (frame_of s) st.layer.in_feat ≡ said → Carried st (length s) (decided said (payload_of (frame_of s)) (length s) st w).state
-  carried_found (value nothing) e = record { sound = h; offset_in = omega arith; count_in = omega arith }
-  carried_found (value (layer format in_feat out_feat)) e =
+  carried_found : (said : Said Item) → found (frame_of s) st.layer.in_feat ≡ said → Carried st (length s) (decided said (payload_of (frame_of s)) (length s) st w).state
+  carried_found (Ok End) e = record { sound = h; offset_in = omega arith; count_in = omega arith }
+  carried_found (Ok (Layer format in_feat out_feat)) e =
       record { sound = layer_sound _ (frame_of s) format in_feat out_feat e; offset_in = omega arith; count_in = omega arith }
-  carried_found (value window) e = record { sound = h; offset_in = omega arith; count_in = omega arith }
-  carried_found (value warm_up) e = record { sound = h; offset_in = omega arith; count_in = omega arith }
-  carried_found (refused why) e = record { sound = h; offset_in = omega arith; count_in = omega arith }
+  carried_found (Ok Window) e = record { sound = h; offset_in = omega arith; count_in = omega arith }
+  carried_found (Ok WarmUp) e = record { sound = h; offset_in = omega arith; count_in = omega arith }
+  carried_found (Err why) e = record { sound = h; offset_in = omega arith; count_in = omega arith }
 
   pub carried : Carried st (length s) (answer_to st w s).state
   unfolding answer_to

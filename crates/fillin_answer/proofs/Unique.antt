@@ -1,9 +1,9 @@
 -- Each call's contract is met by one answer alone, and by one content of its lent memory. Assumes nothing.
 use mathlib.Core.Path.{◌≡◌, ap, ◌∙◌}
 use Prim.Native.Nat.{ℕ}
-use mathlib.Core.Bool.{Bool}
 use mathlib.Core.List.{List}
 use Rattle.refusals.proofs.Once.{OneResult, OneCall, same}
+use Rattle.fillin_lines.specs.declared.lines.Line.{Line}
 use Rattle.fillin_answer.specs.declared.state.State.{State}
 use Rattle.fillin_answer.specs.declared.state.Reply.{Reply}
 use Rattle.fillin_answer.specs.Answers.{Answer, Replied}
@@ -11,16 +11,16 @@ use Rattle.fillin_answer.proofs.state.start.Reads as start
 use Rattle.fillin_answer.proofs.answers.answer.Reads as answer
 
 -- a reply is its fields
-one_reply : (x y : Reply) → x.state ≡ y.state → x.length ≡ y.length → x.over ≡ y.over → x ≡ y
-one_reply x y s l o =
-    ap (λ (z : State). reply z x.length x.over) s ∙ ap (λ (n : ℕ). reply y.state n x.over) l ∙ ap (reply y.state y.length) o
+one_reply : (x y : Reply) → x.state ≡ y.state → x.line ≡ y.line → x.length ≡ y.length → x ≡ y
+one_reply x y s l n =
+    ap (λ (z : State). reply z x.line x.length) s ∙ ap (λ (z : Line). reply y.state z x.length) l ∙ ap (reply y.state y.line) n
   where
-    reply : State → ℕ → Bool → Reply
-    reply z n b = record { state = z; length = n; over = b }
+    reply : State → Line → ℕ → Reply
+    reply z said k = record { state = z; line = said; length = k }
 
 replied_once : (a : Answer) (x y : Reply) (before p q : List ℕ) → Replied a x before p → Replied a y before q → (x ≡ y) × (p ≡ q)
 replied_once a x y before p q h k =
-    (one_reply x y (same h.same_state k.same_state) (same h.same_length k.same_length) (same h.same_over k.same_over), same h.same_line k.same_line)
+    (one_reply x y (same h.same_state k.same_state) (same h.same_says k.same_says) (same h.same_length k.same_length), same h.same_line k.same_line)
 
 paired : {a a' b b' : List ℕ} → a ≡ a' → b ≡ b' → ◌≡◌ {A = List ℕ × List ℕ} (a, b) (a', b')
 paired {a = a} {b' = b'} e f = ap (λ (z : List ℕ). (a, z)) f ∙ ap (λ (z : List ℕ). (z, b')) e

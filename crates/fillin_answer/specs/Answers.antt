@@ -1,15 +1,16 @@
 -- What `fillin` answers to one record. Definitions only.
-use Rattle.std.specs.Prelude.{ℕ, ◌+◌, ◌≡◌, List, [], length, Float}
-use Rattle.refusals.specs.Said.{Said, value, refused}
+use Rattle.std.specs.Prelude.{ℕ, ◌+◌, ◌≡◌, List, [], length, Float, Ok, Err}
+use Rattle.refusals.specs.Said.{Said}
 use Rattle.stepped_shape.specs.Layer.{layer_of}
 use Rattle.frames.specs.Frame.{frame_of, payload_of}
-use Rattle.records.specs.Found.{Found, nothing, layer, window, warm_up}
+use Rattle.records.specs.declared.reader.Item.{Item}
+use Rattle.records.specs.declared.reader.Item.TheVariants as item
 use Rattle.records.specs.Kinds.{weights_in, readings_in, found}
 use Rattle.fillin_window.specs.Windows.{readings_of, outputs_of}
 use Rattle.fillin_text.specs.Text.{laid}
 use Rattle.fillin_lines.specs.declared.lines.Line.{Line}
 use Rattle.fillin_lines.specs.declared.lines.Line.TheVariants as line
-use Rattle.fillin_lines.specs.Lines.{text_of, is_last}
+use Rattle.fillin_lines.specs.Lines.{text_of}
 use Rattle.fillin_answer.specs.declared.state.State.{State}
 use Rattle.fillin_answer.specs.declared.state.Reply.{Reply}
 use Rattle.fillin_answer.specs.Kept.{with_layer, behind, one_answered, one_refused}
@@ -30,24 +31,24 @@ abbrev pub window_number : State → ℕ
 window_number st = st.answered + st.refused + 1
 
 -- what was found, in a record of so many bytes with payload p, is answered with
-abbrev pub decided : Said Found → (p : List ℕ) → (bytes : ℕ) → State → List ℕ → Answer
-decided (value nothing) p bytes st w =
+abbrev pub decided : Said Item → (p : List ℕ) → (bytes : ℕ) → State → List ℕ → Answer
+decided (Ok item.End) p bytes st w =
     record { says = line.End st.answered st.refused; outputs = []; state = st; weights = w }
-decided (value (layer format in_feat out_feat)) p bytes st w = record {
+decided (Ok (item.Layer format in_feat out_feat)) p bytes st w = record {
   says = line.Layer format in_feat out_feat;
   outputs = [];
   state = with_layer (layer_of format in_feat out_feat) (length (weights_in p)) (behind bytes st);
   weights = weights_in p;
 }
-decided (value window) p bytes st w = record {
+decided (Ok item.Window) p bytes st w = record {
   says = line.Window (window_number st);
   outputs = outputs_of st.layer w (readings_of (readings_in p) st.layer);
   state = one_answered (behind bytes st);
   weights = w;
 }
-decided (value warm_up) p bytes st w =
+decided (Ok item.WarmUp) p bytes st w =
     record { says = line.WarmUp (window_number st); outputs = []; state = one_refused (behind bytes st); weights = w }
-decided (refused why) p bytes st w =
+decided (Err why) p bytes st w =
     record { says = line.Stop why st.offset; outputs = []; state = st; weights = w }
 
 -- what a record is answered with, of its own bytes
@@ -59,6 +60,6 @@ answer_to st w bytes =
 -- the reply and the line's buffer are as the answer says
 pub record Replied (a : Answer) (r : Reply) (before after : List ℕ) : Type 0 where
   pub same_state : r.state ≡ a.state
+  pub same_says : r.line ≡ a.says
   pub same_length : r.length ≡ length (text a)
-  pub same_over : r.over ≡ is_last a.says
   pub same_line : after ≡ laid before 0 (text a)

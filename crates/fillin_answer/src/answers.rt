@@ -12,11 +12,11 @@ use crate::state::{Reply, State};
 use fillin_lines::Line;
 use fillin_window::window_outputs;
 use records::Item;
-use refusals::{Outcome, Refusal};
+use refusals::Refusal;
 use stepped_shape::Layer;
 
 // What a record is answered with: the line, how many outputs it shows, and what is kept then.
-#[derive(Drop)]
+#[derive(Clone, Copy)]
 struct Decided {
     line: Line,
     outputs: usize,
@@ -104,7 +104,7 @@ fn answer_window(st: State, size: usize, payload: &[u8], weights: &[u8], y: &mut
         ++ drop st.layer.out_feat y.old }
 {
     let l = st.layer;
-    if let Outcome::Refused(why) = window_outputs(l, weights, records::readings_of(payload), y) {
+    if let Err(why) = window_outputs(l, weights, records::readings_of(payload), y) {
         return stop(st, why);
     }
     let mut state = behind_record(st, size);
@@ -131,7 +131,7 @@ fn decide(st: State, record: &[u8], weights: &mut [u8], y: &mut [f32]) -> Decide
     let l = st.layer;
     let size = record.len();
     match records::read(record, l.in_feat) {
-        Item::End => Decided {
+        Ok(Item::End) => Decided {
             line: Line::End {
                 answered: st.answered,
                 refused: st.refused,
@@ -139,11 +139,13 @@ fn decide(st: State, record: &[u8], weights: &mut [u8], y: &mut [f32]) -> Decide
             outputs: 0,
             state: st,
         },
-        Item::Layer {
-            format,
-            in_feat,
-            out_feat,
-        } => {
+        Ok(
+            Item::Layer {
+                format,
+                in_feat,
+                out_feat,
+            },
+        ) => {
             let latest = Layer {
                 format,
                 in_feat,
@@ -151,12 +153,12 @@ fn decide(st: State, record: &[u8], weights: &mut [u8], y: &mut [f32]) -> Decide
             };
             take_layer(st, latest, size, frames::payload(record), weights)
         }
-        Item::Window => {
+        Ok(Item::Window) => {
             let kept = st.weight_bytes;
             answer_window(st, size, frames::payload(record), &weights[..kept], y)
         }
-        Item::WarmUp => refuse_window(st, size),
-        Item::Refused(why) => stop(st, why),
+        Ok(Item::WarmUp) => refuse_window(st, size),
+        Err(why) => stop(st, why),
     }
 }
 
@@ -180,7 +182,7 @@ pub fn answer(st: State, record: &[u8], weights: &mut [u8], line: &mut [u8]) -> 
     let length = fillin_lines::write_line(says, &y[..shown], line);
     Reply {
         state,
+        line: says,
         length,
-        over: fillin_lines::is_last(says),
     }
 }

@@ -2,6 +2,7 @@
 ghost use Rattle.std.specs.Prelude.{◌≡◌};
 ghost use Rattle.fillin_answer.specs.Kept.{begun};
 
+use fillin_lines::Line;
 use stepped_shape::Layer;
 
 // The latest layer, whose in_feat is 0 where there is none yet, and how many bytes its weights have; the next record's
@@ -15,12 +16,12 @@ pub struct State {
     pub refused: u64,
 }
 
-// The state then, how many bytes of the line's buffer are its text, and whether nothing more is answered.
+// The state then, what the line says, and how many bytes of its buffer are its text.
 #[derive(Clone, Copy)]
 pub struct Reply {
     pub state: State,
+    pub line: Line,
     pub length: usize,
-    pub over: bool,
 }
 
 // Before the first record.

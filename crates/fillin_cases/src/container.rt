@@ -3,14 +3,13 @@ use crate::answers::{LARGE, answer_behind_itself, answer_file};
 use numbers::u32_at;
 use std::io;
 
-// How a file is answered: at each of its cuts, from no bytes to all of them; with at most 1 byte to a read, then 2, and
-// so on; a thousand times, one behind the other; with its lines put behind it; and otherwise as it is.
+// How a file is answered, by the byte in front of it: at each of its cuts, from no bytes to all of them ..
 const AT_EACH_CUT: u8 = 1;
-
+// .. with at most 1 byte to a read, then 2, and so on ..
 const IN_PIECES: u8 = 2;
-
+// .. a thousand times, one behind the other ..
 const A_THOUSAND: u8 = 3;
-
+// .. with its lines put behind it; and at any other byte as it is.
 const BEHIND_ITSELF: u8 = 4;
 
 // The bytes of a piece at most: one more than the length and the kind have.
@@ -19,12 +18,10 @@ const MOST_PIECE: usize = 7;
 // Answers a file at each of its cuts. The number of the next answer.
 fn answer_cuts(rt: &HostRuntime, number: u64, file: &[u8]) -> io::Result<u64> {
     let mut next = number;
-    let mut cut: usize = 0;
-    while cut < file.len() {
+    for cut in 0..=file.len() {
         next = answer_file(rt, next, &file[..cut], 1, LARGE)?;
-        cut += 1;
     }
-    answer_file(rt, next, file, 1, LARGE)
+    Ok(next)
 }
 
 // Answers a file in pieces. The number of the next answer.

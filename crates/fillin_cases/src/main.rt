@@ -8,33 +8,12 @@
 mod answers;
 mod container;
 
-ghost use Rattle.std.specs.Prelude.{◌≤◌, length};
-
 use container::answer_container;
+use input_bytes::read_full;
 use std::io;
-use std::io::{ErrorKind, Read};
 
 // Room for the container.
 const MOST_INPUT: usize = 400_000;
-
-// Reads until the buffer is full, the input ends or a read fails. How many bytes then stand in front.
-fn read_full<R: Read>(input: &mut R, buf: &mut [u8]) -> usize
-    ensures { result ≤ length buf.new }
-{
-    let mut done: usize = 0;
-    for _ in 0..u64::MAX {
-        if done == buf.len() {
-            break;
-        }
-        match input.read(&mut buf[done..]) {
-            Ok(0) => break,
-            Ok(bytes) => done += bytes,
-            Err(why) if why.kind() == ErrorKind::Interrupted => {}
-            Err(_) => break,
-        }
-    }
-    done
-}
 
 fn main(rt: HostRuntime) -> io::Result<()> {
     let mut input = [0u8; MOST_INPUT];

@@ -4,7 +4,8 @@ use native.Mathlib.Omega.{arith}
 use mathlib.Core.List.{List}
 use lib.Ieee.{Float}
 use lib.ListN.{length, length-append}
-use Rattle.refusals.specs.declared.Refusal.{Refusal}
+use Rattle.refusals.specs.declared.refusal.Refusal.{Refusal}
+use Rattle.refusals.specs.Said.{number}
 use Rattle.fillin_lines.specs.Lines.{layer_line, window_head, window_line, refused_line, stop_line, end_line}
 use Rattle.fillin_text.proofs.Decimal.{length_field}
 use Rattle.fillin_lines.proofs.Outputs.{length_output_fields}
@@ -36,7 +37,7 @@ refused_line_length number = let a = length_field number in record { some = simp
 pub stop_line_length : (why : Refusal) (offset : ℕ) → Fitting (stop_line why offset)
 unfolding stop_line
 stop_line_length why offset =
-    let a = length_field why.number in
+    let a = length_field (number why) in
     let b = length_field offset in
     record { some = simp length-append (omega arith); most = simp length-append (omega arith) }
 

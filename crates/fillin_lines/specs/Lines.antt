@@ -2,7 +2,8 @@
 use Rattle.std.specs.Prelude.{ℕ, Bool, true, false, List, [], ◌∷◌, ◌++◌, Float}
 use Rattle.std.specs.Float.{binary32}
 use Rattle.std.specs.Float.Ieee.{to_bits}
-use Rattle.refusals.specs.declared.Refusal.{Refusal}
+use Rattle.refusals.specs.declared.refusal.Refusal.{Refusal}
+use Rattle.refusals.specs.Said.{number}
 use Rattle.fillin_text.specs.Text.{field, hex_field}
 use Rattle.fillin_lines.specs.declared.lines.Line.{Line}
 use Rattle.fillin_lines.specs.declared.lines.Line.TheVariants.{Layer, Window, WarmUp, Stop, End}
@@ -40,7 +41,7 @@ refused_line number = window_head number ++
 
 -- `stop`, the number, the record's byte offset
 unfoldable pub stop_line : Refusal → (offset : ℕ) → List ℕ
-stop_line why offset = (115 ∷ 116 ∷ 111 ∷ 112 ∷ []) ++ (field why.number ++ (field offset ++ newline))
+stop_line why offset = (115 ∷ 116 ∷ 111 ∷ 112 ∷ []) ++ (field (number why) ++ (field offset ++ newline))
 
 -- At the end: `end`, windows answered, windows refused.
 unfoldable pub end_line : (answered refused : ℕ) → List ℕ

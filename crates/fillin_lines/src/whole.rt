@@ -31,10 +31,8 @@ pub(crate) fn window_line(line: &mut [u8], number: u64, outputs: &[f32]) -> usiz
 {
     let a = put(line, 0, b"window");
     let mut at = put_field(line, a, number);
-    let mut k: usize = 0;
-    while k < outputs.len() {
-        at = put_output(line, at, outputs[k]);
-        k += 1;
+    for &output in outputs {
+        at = put_output(line, at, output);
     }
     put(line, at, b"\n")
 }
@@ -64,15 +62,17 @@ fn word_and_two(line: &mut [u8], word: &[u8], one: u64, two: u64) -> usize
 }
 
 // `stop`, the refusal's number, the record's byte offset.
+#[tactic(auto, unfolding(crate::specs::Lines::stop_line))]
 pub(crate) fn stop_line(line: &mut [u8], why: Refusal, offset: u64) -> usize
     requires { most_line ≤ length line.old }
     ensures line_after { line.new ≡ laid line.old 0 (stop_line why offset) }
     ensures value { (result ≡ length (stop_line why offset)) × (result ≤ most_line) }
 {
-    word_and_two(line, b"stop", why.number as u64, offset)
+    word_and_two(line, b"stop", why.number() as u64, offset)
 }
 
 // `end`, windows answered, windows refused.
+#[tactic(auto, unfolding(crate::specs::Lines::end_line))]
 pub(crate) fn end_line(line: &mut [u8], answered: u64, refused: u64) -> usize
     requires { most_line ≤ length line.old }
     ensures line_after { line.new ≡ laid line.old 0 (end_line answered refused) }

@@ -1,4 +1,3 @@
--- Bytes that are moved to the front of their buffer; lines behind lines; records one a turn.
-pub mod Moving
+-- Lines behind lines; records one a turn.
 pub mod Behind
 pub mod Turns

@@ -1,5 +1,5 @@
 -- Records that have come, one a turn. Assumes nothing.
-use mathlib.Core.Path.{◌≡◌, refl, sym, ap, ◌∙◌}
+use mathlib.Core.Path.{◌≡◌, sym, ap, ◌∙◌}
 use Prim.Native.Nat.{ℕ, suc, ◌+◌, ◌-◌, ◌*◌, ◌≤◌, ◌<◌}
 use native.Mathlib.Omega.{arith}
 use mathlib.Core.Bool.{Bool, true, false, cond}
@@ -7,7 +7,7 @@ use mathlib.Core.List.{List}
 use lib.ListN.{length, take, drop, length-take, length-drop}
 use lib.Seq.{take_all}
 use Rattle.frames.specs.Pieces.{next_in}
-use Rattle.frames.specs.declared.frame.Next.TheVariants as next
+use Rattle.std.proofs.Common.{Some, None}
 use Rattle.frames.proofs.Pieces.{more_short}
 use Rattle.fillin_lines.specs.declared.lines.Line.{Line}
 use Rattle.fillin_lines.specs.declared.lines.Line.TheVariants.{Layer, Window, WarmUp, Stop, End}
@@ -15,9 +15,7 @@ use Rattle.fillin_window.specs.Windows.{Sound}
 use Rattle.fillin_answer.specs.declared.state.State.{State}
 use Rattle.fillin_answer.specs.Kept.{Carried}
 use Rattle.fillin_answer.specs.Answers.{answer_to}
-use Rattle.fillin_loop.specs.declared.ending.Ending.{Ending}
-use Rattle.fillin_loop.specs.declared.come.Course.{Course}
-use Rattle.fillin_loop.specs.declared.come.Course.TheVariants.{On, More, Over}
+use Rattle.fillin_loop.specs.declared.come.Course.TheVariants.{More}
 use Rattle.fillin_loop.specs.declared.come.Answered.{Answered}
 use Rattle.fillin_loop.specs.Come.{SoFar, course_after, so_far, nothing_yet, with_one_more, waiting, is_over, answering, Reached}
 
@@ -31,11 +29,11 @@ never_more (End answered refused) e = let z : ◌≡◌ {A = ℕ} 0 1 = cc in om
 
 module _ (come : List ℕ) (ended : Bool) where
   -- a turn with a record of which more has to come, and one with a whole record
-  more_stays : (most : ℕ) (s : SoFar) → next_in (drop s.bytes come) ended ≡ next.More → answering come ended (suc most) s ≡ waiting s
+  more_stays : (most : ℕ) (s : SoFar) → next_in (drop s.bytes come) ended ≡ None → answering come ended (suc most) s ≡ waiting s
   unfolding answering
   more_stays most s e = rw e
 
-  whole_turn : (most : ℕ) (s t : SoFar) (n : ℕ) → next_in (drop s.bytes come) ended ≡ next.Bytes n → t ≡ with_one_more s (take n (drop s.bytes come))
+  whole_turn : (most : ℕ) (s t : SoFar) (n : ℕ) → next_in (drop s.bytes come) ended ≡ Some n → t ≡ with_one_more s (take n (drop s.bytes come))
       → answering come ended (suc most) s ≡ cond (is_over t.course) t (answering come ended most t)
   unfolding answering
   whole_turn most s t n e p = rw (e, p)
@@ -85,10 +83,10 @@ module _ {come : List ℕ} {ended : Bool} {st : State} {w₀ lines₀ w lines : 
   one_turn = omega arith
 
   -- more has to come
-  pub waits : next_in (drop d.bytes come) ended ≡ next.More → waiting (so_far d w lines) ≡ all
+  pub waits : next_in (drop d.bytes come) ended ≡ None → waiting (so_far d w lines) ≡ all
   waits e = sym (more_stays come ended (64 - (i + 1)) (so_far d w lines) e) ∙ ap (λ (n : ℕ). answering come ended n (so_far d w lines)) (sym one_turn) ∙ g.same
 
-  pub reached_waiting : next_in (drop d.bytes come) ended ≡ next.More → (lines : ℕ) → 11008 ≤ lines
+  pub reached_waiting : next_in (drop d.bytes come) ended ≡ None → (lines : ℕ) → 11008 ≤ lines
       → Reached st (length come) lines (record { state = d.state; bytes = d.bytes; text = d.text; course = More })
   reached_waiting e lines h =
       let v = g.within in
@@ -102,7 +100,7 @@ module _ {come : List ℕ} {ended : Bool} {st : State} {w₀ lines₀ w lines : 
       }
 
   -- one more record
-  module _ (n : ℕ) (bs : List ℕ) (d' : Answered) (w' lines' : List ℕ) (e : next_in (drop d.bytes come) ended ≡ next.Bytes n) (b : bs ≡ take n (drop d.bytes come)) (p : so_far d' w' lines' ≡ with_one_more (so_far d w lines) bs) where
+  module _ (n : ℕ) (bs : List ℕ) (d' : Answered) (w' lines' : List ℕ) (e : next_in (drop d.bytes come) ended ≡ Some n) (b : bs ≡ take n (drop d.bytes come)) (p : so_far d' w' lines' ≡ with_one_more (so_far d w lines) bs) where
     turned : cond (is_over d'.course) (so_far d' w' lines') (answering come ended (64 - (i + 1)) (so_far d' w' lines')) ≡ all
     turned =
         sym (whole_turn come ended (64 - (i + 1)) (so_far d w lines) (so_far d' w' lines') n e (p ∙ ap (with_one_more (so_far d w lines)) b))

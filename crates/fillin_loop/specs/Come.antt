@@ -1,5 +1,5 @@
 -- What is answered of the bytes that have come: the lines of their records. Definitions only.
-use Rattle.std.specs.Prelude.{ℕ, zero, suc, ◌+◌, ◌-◌, ◌*◌, ◌^◌, ◌≤◌, ◌<◌, ◌≡◌, Bool, true, false, cond, List, [], ◌++◌, eqb, length, take, drop}
+use Rattle.std.specs.Prelude.{ℕ, zero, suc, ◌+◌, ◌-◌, ◌*◌, ◌^◌, ◌≤◌, ◌<◌, ◌≡◌, Bool, true, false, cond, List, [], ◌++◌, length, take, drop}
 use Rattle.frames.specs.Frame.{most_record}
 use Rattle.frames.specs.Pieces.{next_in}
 use Rattle.records.specs.Kinds.{most_weights}
@@ -9,9 +9,8 @@ use Rattle.fillin_lines.specs.declared.lines.Line.TheVariants as line
 use Rattle.fillin_lines.specs.Lines.{most_line}
 use Rattle.fillin_window.specs.Windows.{Sound}
 use Rattle.fillin_answer.specs.declared.state.State.{State}
-use Rattle.fillin_answer.specs.Answers.{Answer, text, answer_to}
+use Rattle.fillin_answer.specs.Answers.{text, answer_to}
 use Rattle.fillin_transcript.specs.Transcript.{by_next}
-use Rattle.fillin_loop.specs.declared.ending.Ending.{Ending}
 use Rattle.fillin_loop.specs.declared.ending.Ending.TheVariants.{Ended, Stopped}
 use Rattle.fillin_loop.specs.declared.come.Course.{Course}
 use Rattle.fillin_loop.specs.declared.come.Course.TheVariants.{On, More, Over}
@@ -21,11 +20,7 @@ use Rattle.fillin_loop.specs.declared.come.Answered.{Answered}
 abbrev pub most_lines : ℕ
 most_lines = 64
 
--- how it goes on after a line, by whether it is the last one, and by its first letter: `e` of `end`, `s` of `stop`
-abbrev pub course_by : (last : Bool) (letter : ℕ) → Course
-course_by last letter = cond last (Over (cond (eqb letter 101) Ended Stopped)) On
-
--- the same, by the line
+-- how it goes on after a line: `end` and `stop` are the last ones
 abbrev pub course_after : Line → Course
 course_after (line.Layer format in_feat out_feat) = On
 course_after (line.Window number) = On

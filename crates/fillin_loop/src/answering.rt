@@ -67,10 +67,10 @@ fn answer_records<R: Read + Drop, W: Write + IsTerminal + Drop>(
                 return ending;
             }
         }
-        unread = read_on(&mut input, most, buf, unread);
-        if let Some(why) = unread.failed {
-            return unreadable(progress, why);
-        }
+        unread = match read_on(&mut input, most, buf, unread) {
+            Ok(more) => more,
+            Err(why) => return unreadable(progress, why),
+        };
     }
     too_many(progress)
 }

@@ -2,12 +2,11 @@
 ghost use Rattle.std.specs.Prelude.{◌≡◌, ◌+◌, ◌^◌, ◌≤◌, ◌<◌, length};
 ghost use Rattle.fillin_lines.specs.Lines.{most_line};
 ghost use Rattle.fillin_answer.specs.Kept.{Ready, Carried};
-ghost use Rattle.fillin_loop.specs.Come.{most_lines, course_by, is_over, so_far, nothing_yet, with_one_more, answering, Prepared, Reached};
+ghost use Rattle.fillin_loop.specs.Come.{most_lines, course_after, is_over, so_far, nothing_yet, with_one_more, answering, Prepared, Reached};
 
 use crate::ending::Ending;
 use fillin_answer::State;
-use fillin_lines::MOST_LINE;
-use frames::Next;
+use fillin_lines::{Line, MOST_LINE};
 
 // The lines that are written at once, at most: what is read ahead has no more windows.
 const MOST_LINES: usize = 64;
@@ -23,18 +22,16 @@ pub(crate) enum Course {
 }
 
 impl Course {
-    // After a line, by whether it is the last one, and by its first letter: `end` or `stop`.
-    fn after(last: bool, letter: u8) -> Self
-        ensures { result ≡ course_by last letter }
+    // After a line: on with the next record, or, behind the last one, over by `end` or by `stop`.
+    fn after(line: Line) -> Self
+        ensures { result ≡ course_after line }
     {
-        if last {
-            if letter == b'e' {
-                Course::Over(Ending::Ended)
-            } else {
-                Course::Over(Ending::Stopped)
-            }
-        } else {
-            Course::On
+        if !fillin_lines::is_last(line) {
+            return Course::On;
+        }
+        match line {
+            Line::End { .. } => Course::Over(Ending::Ended),
+            _ => Course::Over(Ending::Stopped),
         }
     }
 
@@ -76,7 +73,7 @@ fn answer_one(done: Answered, record: &[u8], weights: &mut [u8], lines: &mut [u8
         state,
         bytes: done.bytes + record.len(),
         text: from + reply.length,
-        course: Course::after(reply.over, lines[from]),
+        course: Course::after(reply.line),
     }
 }
 
@@ -102,7 +99,7 @@ pub(crate) fn answer_come(
     };
     for _ in 0..MOST_LINES {
         let from = done.bytes;
-        let Next::Bytes(size) = frames::next_record(&come[from..], ended) else {
+        let Some(size) = frames::next_record(&come[from..], ended) else {
             let state = done.state;
             return Answered {
                 state,

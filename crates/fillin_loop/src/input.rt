@@ -1,7 +1,6 @@
 // The input, in whatever pieces it comes.
 ghost use Rattle.std.specs.Prelude.{◌≡◌, ◌-◌, ◌≤◌, ◌<◌, length, take, IfOk};
-ghost use Rattle.memory.specs.Lists.{part};
-ghost use Rattle.fillin_loop.specs.Input.{InBuffer, ReadOn};
+ghost use Rattle.fillin_loop.specs.Input.{unread_in, InBuffer, ReadOn};
 
 use std::io;
 use std::io::{Error, ErrorKind, Read, Stdin, Stdout};
@@ -32,14 +31,13 @@ pub fn standard(rt: &HostRuntime) -> Desk<Stdin, Stdout>
     }
 }
 
-// The bytes of a buffer that have come and are not answered yet, from a place to another; whether nothing follows them,
-// and why they cannot be read on, where they cannot.
+// The bytes of a buffer that have come and are not answered yet, from a place to another, and whether nothing follows
+// them.
 #[derive(Clone, Copy)]
 pub(crate) struct Unread {
     pub from: usize,
     pub to: usize,
     pub ended: bool,
-    pub failed: Option<Error>,
 }
 
 // Before the first read.
@@ -50,27 +48,7 @@ pub(crate) fn nothing_read() -> Unread
         from: 0,
         to: 0,
         ended: false,
-        failed: None,
     }
-}
-
-// Moves the bytes between two places to the front.
-fn move_to_front(buf: &mut [u8], from: usize, to: usize)
-    requires { (from ≤ to) × (to ≤ length buf.old) }
-    ensures { take (to - from) buf.new ≡ part buf.old from (to - from) }
-{
-    let count = to - from;
-    for i in 0..count {
-        buf[i] = buf[from + i];
-    }
-}
-
-// The smaller of two, of which neither is 0.
-fn smaller(a: usize, b: usize) -> usize
-    requires { (0 < a) × (0 < b) }
-    ensures { (0 < result) × (result ≤ a) × (result ≤ b) }
-{
-    if a < b { a } else { b }
 }
 
 // One read, again where a signal interrupts it. It is lent a place at least, so that no bytes do not mean that there was
@@ -90,22 +68,26 @@ fn read_some<R: Read>(input: &mut R, buf: &mut [u8]) -> io::Result<usize>
 
 // Reads on: the bytes that are not answered yet are moved to the front, and one read puts more behind them, or nothing
 // where the input has ended.
-pub(crate) fn read_on<R: Read>(input: &mut R, most: usize, buf: &mut [u8], unread: Unread) -> Unread
+pub(crate) fn read_on<R: Read>(
+    input: &mut R,
+    most: usize,
+    buf: &mut [u8],
+    unread: Unread,
+) -> io::Result<Unread>
     requires { InBuffer buf.old unread × (unread.to - unread.from < length buf.old) × (0 < most) }
-    ensures { ReadOn buf.old unread buf.new result }
+    ensures read { IfOk result (λ more. ReadOn buf.old unread buf.new more) }
+    ensures kept { take (unread.to - unread.from) buf.new ≡ unread_in buf.old unread }
 {
     let from = unread.from;
     let to = unread.to;
-    move_to_front(buf, from, to);
+    buf.copy_within(from..to, 0);
     let kept = to - from;
-    let asked = smaller(most, buf.len() - kept);
+    let asked = most.min(buf.len() - kept);
     let end = kept + asked;
-    let came = read_some(input, &mut buf[kept..end]);
-    let bytes = came.unwrap_or(0);
-    Unread {
+    let bytes = read_some(input, &mut buf[kept..end])?;
+    Ok(Unread {
         from: 0,
         to: kept + bytes,
         ended: bytes == 0,
-        failed: came.err(),
-    }
+    })
 }

@@ -1,12 +1,11 @@
 -- Text laid into a line, piece behind piece and byte by byte. Assumes nothing.
 use mathlib.Core.Path.{◌≡◌, sym, ap, ◌∙◌}
-use Prim.Native.Nat.{ℕ, ◌+◌, ◌≤◌, ◌<◌, zero-le}
+use Prim.Native.Nat.{ℕ, ◌+◌, ◌≤◌, zero-le}
 use native.Mathlib.Nat.{add-zero, zero-add}
-use native.Mathlib.Numerals.{add-one}
 use native.Mathlib.Omega.{arith}
 use mathlib.Core.List.{List, [], ◌++◌, append_assoc}
-use lib.ListN.{length, get_or, take, drop, set, length-append, length-drop, take-append-drop}
-use lib.Seq.{length-take-le, take-length, take_at, drop_at, drop-drop, paste, paste-zero, paste-suc}
+use lib.ListN.{length, take, drop, length-append, length-drop, take-append-drop}
+use lib.Seq.{length-take-le, take_at, drop_at, drop-drop}
 use Rattle.fillin_text.specs.Text.{laid}
 
 -- ---- one piece
@@ -59,17 +58,3 @@ next {xs} {t} {b} u w p q =
 -- the whole line, by its name
 pub named : {xs t u ys : List ℕ} {b : ℕ} → t ≡ u → Written xs t ys b → Written xs u ys b
 named {xs} e w = record { holds = w.holds ∙ ap (laid xs 0) e; ends = w.ends ∙ ap length e }
-
--- ---- one byte a turn: after k turns the first k bytes of the text are laid
-pub laying_start : (xs : List ℕ) (at : ℕ) (text : List ℕ) → xs ≡ paste xs at text 0
-laying_start xs at text = paste-zero xs at text
-
-pub laying_more : (xs : List ℕ) (at : ℕ) (text ys : List ℕ) (k : ℕ) → at + length text ≤ length xs → k < length text → ys ≡ paste xs at text k
-    → set ys (at + k) (get_or text k 0) ≡ paste xs at text (k + 1)
-laying_more xs at text ys k room h e =
-    let i : at + k < length xs = omega arith in
-    ap (λ (l : List ℕ). set l (at + k) (get_or text k 0)) e ∙ paste-suc xs at text k 0 i h ∙ ap (paste xs at text) (sym (add-one k))
-
-pub laying_done : (xs : List ℕ) (at : ℕ) (text : List ℕ) → paste xs at text (length text) ≡ laid xs at text
-unfolding laid
-laying_done xs at text = rw take-length (append_assoc (take at xs) text (drop (at + length text) xs))

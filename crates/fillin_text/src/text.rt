@@ -5,17 +5,15 @@ ghost use Rattle.std.specs.Float.Ieee.{to_bits};
 ghost use Rattle.fillin_text.specs.Text.{laid, field, hex_digit, hex_field};
 
 // Lays text into the line from `at` on. Returns the place behind it.
+#[tactic(auto, unfolding(crate::specs::Text::laid))]
 pub fn put(line: &mut [u8], at: usize, text: &[u8]) -> usize
     requires { at + length text.now ≤ length line.old }
     ensures line_after { line.new ≡ laid line.old at text.now }
     ensures value { result ≡ at + length text.now }
 {
-    let mut k: usize = 0;
-    while k < text.len() {
-        line[at + k] = text[k];
-        k += 1;
-    }
-    at + text.len()
+    let behind = at + text.len();
+    line[at..behind].copy_from_slice(text);
+    behind
 }
 
 // Lays a space and the decimal digits of n, at most 21 bytes.
@@ -31,6 +29,7 @@ pub fn put_field(line: &mut [u8], at: usize, n: u64) -> usize
 }
 
 // The ASCII code of an upper-case hexadecimal digit.
+#[tactic(auto, unfolding(crate::specs::Text::hex_digit))]
 fn hex_digit(d: u32) -> u8
     requires { d < 16 }
     ensures { result ≡ hex_digit d }

@@ -1,6 +1,6 @@
 -- In whatever pieces an input comes, the lines are its transcript. Assumes nothing.
 use Prim.Native.Nat.{ℕ, zero, suc, ◌+◌, ◌≤◌, ◌<◌}
-use mathlib.Core.Path.{◌≡◌, refl, sym, ap, subst, ◌∙◌}
+use mathlib.Core.Path.{◌≡◌, refl, sym, ap, ◌∙◌}
 use mathlib.Core.Bool.{Bool, true, false, cond, true≢false}
 use mathlib.Core.List.{List, [], ◌∷◌, ◌++◌, append_assoc, append-nil}
 use native.Mathlib.Omega.{arith}
@@ -9,13 +9,12 @@ use lib.Dec.{leb}
 use lib.ListN.{length, take, drop, length-append, length-drop, drop_of_length-le}
 use lib.Seq.{take_all, take-length, take-append-le, drop-append-le}
 use Rattle.frames.specs.Frame.{size_of}
-use Rattle.frames.specs.Pieces.{next_in}
 use Rattle.frames.proofs.Pieces.{size_within, size_front, next_whole, next_left, next_more}
 use Rattle.fillin_lines.specs.Lines.{is_last}
 use Rattle.fillin_answer.specs.declared.state.State.{State}
 use Rattle.fillin_answer.specs.Kept.{begun}
 use Rattle.fillin_answer.specs.Answers.{answer_to}
-use Rattle.fillin_transcript.specs.Transcript.{onward, by_records, transcript, joined, came, after, over, by_next, by_pieces}
+use Rattle.fillin_transcript.specs.Transcript.{onward, by_records, transcript, joined, came, after, over, by_pieces}
 use Rattle.fillin_transcript.proofs.RecordByRecord.{onward_same, ends}
 
 -- turns that are enough for what has come, for the pieces and for the read that gives nothing

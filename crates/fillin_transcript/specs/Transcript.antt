@@ -1,9 +1,7 @@
 -- The whole transcript of a whole input. Definitions only.
-use Rattle.std.specs.Prelude.{ℕ, zero, suc, ◌+◌, Bool, true, false, cond, List, [], ◌∷◌, ◌++◌, length, take, drop}
+use Rattle.std.specs.Prelude.{ℕ, zero, suc, ◌+◌, Bool, true, false, cond, List, [], ◌∷◌, ◌++◌, length, take, drop, Option, Some, None}
 use Rattle.frames.specs.Frame.{size_of}
 use Rattle.frames.specs.Pieces.{next_in}
-use Rattle.frames.specs.declared.frame.Next.{Next}
-use Rattle.frames.specs.declared.frame.Next.TheVariants.{Bytes, More}
 use Rattle.fillin_lines.specs.Lines.{is_last}
 use Rattle.fillin_answer.specs.declared.state.State.{State}
 use Rattle.fillin_answer.specs.Kept.{begun}
@@ -47,9 +45,9 @@ over [] = true
 over (piece ∷ pieces) = false
 
 -- by what stands at the front of the bytes that have come
-abbrev pub by_next : {A : Type 0} → Next → (ℕ → A) → A → A
-by_next (Bytes n) whole more = whole n
-by_next More whole more = more
+abbrev pub by_next : {A : Type 0} → Option ℕ → (ℕ → A) → A → A
+by_next (Some n) whole more = whole n
+by_next None whole more = more
 
 -- the lines, where `rest` has come and is not answered yet: a turn answers the next record, or reads once
 unfoldable pub by_pieces : (most : ℕ) → (rest : List ℕ) → (ended : Bool) → List (List ℕ) → State → List ℕ → List ℕ

@@ -10,10 +10,11 @@ use borrow.Author.Tests.{le-ltb, lt-leb, eq-eqb}
 use lib.ListN.{length, take, drop, get_or, set}
 use lib.Seq.{take-add, get_or-set_same}
 use lib.Ieee.{Float, nan}
-use Rattle.refusals.specs.declared.Refusal.{Refusal}
-use Rattle.refusals.specs.Said.{Said, value, refused, done}
+use Rattle.refusals.specs.declared.refusal.Refusal.{Refusal}
+use Rattle.refusals.specs.Said.{Said, done}
 use Rattle.refusals.specs.Sizes.{most_in, most_out}
 use Rattle.refusals.proofs.Laws.{apart, given_no, else_later}
+use Rattle.std.proofs.Common.{Ok, Err}
 use Rattle.memory.specs.Lists.{table, filled}
 use Rattle.memory.proofs.Filled.{table_ext, length_table}
 use Rattle.layers_shape.specs.Shapes.{weight_bytes}
@@ -24,7 +25,8 @@ use Rattle.stepped_shape.proofs.Shapes.{row_within}
 use Rattle.stepped_shape.proofs.Says.{known_value, known_said}
 use Rattle.stepped_shape.proofs.Marks.{open_append}
 use Rattle.stepped_pieces.specs.Pieces.{row_met, piece_says}
-use Rattle.stepped_shape.specs.Progress.{Ran, ran}
+use Rattle.stepped_shape.specs.declared.progress.Progress.{Progress}
+use Rattle.stepped_shape.specs.Progress.{ran}
 use Rattle.stepped.specs.Says.{run_work, open_says, run_says, close_says}
 use Rattle.stepped_history.specs.History.{in_one_go, piece, run, close, closed_by, call, calls, opened}
 use Rattle.stepped.proofs.Counts.{run_counts}
@@ -56,6 +58,13 @@ closes l m y row r room inside =
     ∙ given_no _ _ _ (le-ltb _ _ room)
     ∙ given_no _ _ _ (lt-leb _ _ inside)
     ∙ given_no _ _ _ (simp (eq-eqb _ _ (none_in_row l m.marks row inside r.all_done))))
+
+-- what such a close says and leaves
+pub closing : {r : Said (Unit {0})} {after : List Float} (l : Layer) (m : Memory) (y : List Float) (row : ℕ) → Run l m → l.out_feat ≤ length y → row < l.out_feat
+    → (r, after) ≡ close_says l row m y → (r ≡ done) × (after ≡ set y row (row_met l m.slots row))
+closing l m y row r room inside e =
+    let p = e ∙ closes l m y row r room inside in
+    (ap (λ (q : Said (Unit {0}) × List Float). q.0) p, ap (λ (q : Said (Unit {0}) × List Float). q.1) p)
 
 -- ---- the stepped layer does not refuse a layer of a layer record
 
@@ -95,9 +104,9 @@ module _ (l : Layer) (weights : ℕ) (s : Sound l weights) where
 
 -- what open said and left, and what run did behind the first piece: neither refused, every piece is done, and each row
 -- meets in its dot in one go
-pub record Worked (l : Layer) (w : List ℕ) (x : List Float) (o : Said (Unit {0}) × Memory) (r : Said Ran × Memory) : Type 0 where
+pub record Worked (l : Layer) (w : List ℕ) (x : List Float) (o : Said (Unit {0}) × Memory) (r : Said Progress × Memory) : Type 0 where
   pub opened_done : o.0 ≡ done
-  pub not_refused : (why : Refusal) → r.0 ≡ refused why → ⊥
+  pub not_refused : (why : Refusal) → r.0 ≡ Err why → ⊥
   pub runs_out : Run l r.1
   pub dots : (y : List Float) → filled (row_met l r.1.slots) y l.out_feat ≡ outputs_of l w x ++ drop l.out_feat y
 
@@ -122,7 +131,7 @@ module _ (l : Layer) (w : List ℕ) (x : List Float) (s : Sound l (length w)) (l
 
   module _ (kept : Sixteen after_piece) where
     -- run does not refuse: what it says and leaves
-    runs : run_says l w x 16 after_piece ≡ (value (ran (min 16 (open_of l after_piece.marks)) (open_of l (run_work s.known l w x 16 after_piece).holds.marks)), (run_work s.known l w x 16 after_piece).holds)
+    runs : run_says l w x 16 after_piece ≡ (Ok (ran (min 16 (open_of l after_piece.marks)) (open_of l (run_work s.known l w x 16 after_piece).holds.marks)), (run_work s.known l w x 16 after_piece).holds)
     unfolding run_says
     runs = known_value _ _ _ s.named _ (else_later _ _ (rw (long, kept.0, kept.1) (works l (length w) s)))
 
@@ -134,7 +143,7 @@ module _ (l : Layer) (w : List ℕ) (x : List Float) (s : Sound l (length w)) (l
         let pieces_few = few l (length w) s in
         let r = run_counts s.known l w x 16 after_piece (rw kept.1 pieces_few) in
         let all = r.did ∙ min-eq_right (omega arith) in
-        ap (λ (p : Said Ran × Memory). open_of l p.1.marks) runs ∙ omega (arith, r.left, all)
+        ap (λ (p : Said Progress × Memory). open_of l p.1.marks) runs ∙ omega (arith, r.left, all)
 
     module _ (left : Sixteen after_run) where
       run_out : Run l after_run
@@ -157,10 +166,10 @@ module _ (l : Layer) (w : List ℕ) (x : List Float) (s : Sound l (length w)) (l
       met y = rw s.named (ap (λ (ys : List Float). ys ++ drop l.out_feat y) (table_ext _ _ l.out_feat row_met_lem))
 
   -- each call keeps the lengths of what it is lent
-  abbrev WorkedAsLong : Said (Unit {0}) × Memory → Memory → Said Ran × Memory → Type 0
+  abbrev WorkedAsLong : Said (Unit {0}) × Memory → Memory → Said Progress × Memory → Type 0
   WorkedAsLong o p r = Sixteen p → Sixteen r.1 → Worked l w x o r
 
-  pub worked : (o p : Said (Unit {0}) × Memory) → o ≡ open_says l m → p ≡ piece_says l w x 0 0 o.1 → (r : Said Ran × Memory) → r ≡ run_says l w x 16 p.1 → WorkedAsLong o p.1 r
+  pub worked : (o p : Said (Unit {0}) × Memory) → o ≡ open_says l m → p ≡ piece_says l w x 0 0 o.1 → (r : Said Progress × Memory) → r ≡ run_says l w x 16 p.1 → WorkedAsLong o p.1 r
   worked o p e e' r e'' =
       let piece_left : p ≡ piece_says l w x 0 0 after_open = e' ∙ ap (λ (q : Said (Unit {0}) × Memory). piece_says l w x 0 0 q.1) e in
       let run_left : r ≡ run_says l w x 16 after_piece = e'' ∙ ap (λ (q : Said (Unit {0}) × Memory). run_says l w x 16 q.1) piece_left in
@@ -170,7 +179,7 @@ module _ (l : Layer) (w : List ℕ) (x : List Float) (s : Sound l (length w)) (l
       itself a b =
           record {
             opened_done = open_done;
-            not_refused = λ why z. apart why _ (sym z ∙ ap (λ (q : Said Ran × Memory). q.0) (runs a));
+            not_refused = λ why z. apart why _ (sym z ∙ ap (λ (q : Said Progress × Memory). q.0) (runs a));
             runs_out = run_out a b;
             dots = met a b;
           }

@@ -7,7 +7,7 @@ use native.Mathlib.Omega.{arith}
 use borrow.Author.Tests.{le-leb, lt-leb, leb-true, leb-false}
 use lib.Dec.{leb}
 use lib.ListN.{length, length-append, get_or-append}
-use Rattle.frames.specs.declared.frame.Next.TheVariants.{Bytes, More}
+use Rattle.std.proofs.Common.{Some, None}
 use Rattle.numbers.specs.Fields.{le32}
 use Rattle.frames.specs.Frame.{good_length, size_of}
 use Rattle.frames.specs.Pieces.{next_in}
@@ -31,35 +31,35 @@ size_front s more h =
 
 module _ (rest : List ℕ) where
   -- a whole record, or a length that is bad
-  pub next_whole : (ended : Bool) → size_of rest ≤ length rest → next_in rest ended ≡ Bytes (size_of rest)
+  pub next_whole : (ended : Bool) → size_of rest ≤ length rest → next_in rest ended ≡ Some (size_of rest)
   unfolding next_in
   next_whole ended h = rw (le-leb _ _ h)
 
   -- all that is left of an input that has ended
-  pub next_left : length rest < size_of rest → next_in rest true ≡ Bytes (length rest)
+  pub next_left : length rest < size_of rest → next_in rest true ≡ Some (length rest)
   unfolding next_in
   next_left h = rw (lt-leb _ _ h)
 
-  pub next_more : length rest < size_of rest → next_in rest false ≡ More
+  pub next_more : length rest < size_of rest → next_in rest false ≡ None
   unfolding next_in
   next_more h = rw (lt-leb _ _ h)
 
   -- the next record is at the front of what has come, and has no more bytes than a record
-  pub next_within : (ended : Bool) (n : ℕ) → next_in rest ended ≡ Bytes n → (n ≤ length rest) × (n ≤ 32772)
+  pub next_within : (ended : Bool) (n : ℕ) → next_in rest ended ≡ Some n → (n ≤ length rest) × (n ≤ 32772)
   unfolding next_in
   next_within ended n e = go (leb (size_of rest) (length rest)) ended refl e
     where
-      go : (a b : Bool) → leb (size_of rest) (length rest) ≡ a → cond a (Bytes (size_of rest)) (cond b (Bytes (length rest)) More) ≡ Bytes n → (n ≤ length rest) × (n ≤ 32772)
+      go : (a b : Bool) → leb (size_of rest) (length rest) ≡ a → cond a (Some (size_of rest)) (cond b (Some (length rest)) None) ≡ Some n → (n ≤ length rest) × (n ≤ 32772)
       go true b a e = let same : size_of rest ≡ n = cc in (omega (arith, leb-true (size_of rest) (length rest) a), omega (arith, size_within rest))
       go false true a e = let same : length rest ≡ n = cc in (omega arith, omega (arith, leb-false (size_of rest) (length rest) a, size_within rest))
       go false false a e = let z : ◌≡◌ {A = ℕ} 0 1 = cc in absurd (omega arith)
 
   -- what more has to come for is shorter than the longest record
-  pub more_short : (ended : Bool) → next_in rest ended ≡ More → length rest < 32772
+  pub more_short : (ended : Bool) → next_in rest ended ≡ None → length rest < 32772
   unfolding next_in
   more_short ended e = go (leb (size_of rest) (length rest)) ended refl e
     where
-      go : (a b : Bool) → leb (size_of rest) (length rest) ≡ a → cond a (Bytes (size_of rest)) (cond b (Bytes (length rest)) More) ≡ More → length rest < 32772
+      go : (a b : Bool) → leb (size_of rest) (length rest) ≡ a → cond a (Some (size_of rest)) (cond b (Some (length rest)) None) ≡ None → length rest < 32772
       go true b a e = let z : ◌≡◌ {A = ℕ} 0 1 = cc in absurd (omega arith)
       go false true a e = let z : ◌≡◌ {A = ℕ} 0 1 = cc in absurd (omega arith)
       go false false a e = omega (arith, leb-false (size_of rest) (length rest) a, size_within rest)

@@ -16,6 +16,7 @@ pub const MOST_RECORD: usize = 32_772;
 const HEAD: usize = 6;
 
 // Whether these bytes begin with a length field, from 2 to 32,768.
+#[tactic(auto, unfolding(crate::specs::Frame::good_length))]
 fn good_length(s: &[u8]) -> bool
     ensures { result ≡ good_length s.now }
 {
@@ -30,6 +31,7 @@ fn good_length(s: &[u8]) -> bool
 }
 
 // How many bytes the record has that begins with these: 4, its length field, where that is missing or bad.
+#[tactic(auto, using(crate::proofs::Whole::good, crate::proofs::Whole::size_good, crate::proofs::Whole::size_bad))]
 pub fn size_of(s: &[u8]) -> usize
     ensures { (result ≡ size_of s.now) × (result ≤ most_record) }
 {
@@ -37,6 +39,7 @@ pub fn size_of(s: &[u8]) -> usize
 }
 
 // Whether these bytes begin with a good length and all the bytes that it counts.
+#[tactic(auto, unfolding(crate::specs::Frame::is_whole))]
 fn is_whole(s: &[u8]) -> bool
     ensures { result ≡ is_whole s.now }
 {
@@ -58,6 +61,7 @@ pub enum Front {
 }
 
 // What these bytes begin with.
+#[tactic(auto, unfolding(crate::specs::Frame::frame_of))]
 pub fn frame_of(s: &[u8]) -> Front
     ensures { result ≡ front_of (frame_of s.now) }
 {
@@ -72,6 +76,7 @@ pub fn frame_of(s: &[u8]) -> Front
 
 // The payload of the record that these bytes begin with, as a part of them; the empty part where no whole record
 // stands there.
+#[tactic(auto, using(crate::proofs::Whole::whole_size, crate::proofs::Whole::frame_whole, crate::proofs::Whole::frame_none))]
 pub fn payload(s: &[u8]) -> &[u8]
     ensures { result.now ≡ payload_of (frame_of s.now) }
 {
@@ -85,6 +90,7 @@ pub fn payload(s: &[u8]) -> &[u8]
 
 // What follows the record that these bytes begin with, as a part of them; the empty part where no whole record stands
 // there.
+#[tactic(auto, using(crate::proofs::Whole::whole_size))]
 pub fn rest(s: &[u8]) -> &[u8]
     ensures { result.now ≡ rest_of (frame_of s.now) }
 {
@@ -96,26 +102,18 @@ pub fn rest(s: &[u8]) -> &[u8]
     }
 }
 
-// What stands at the front of bytes that come in pieces.
-#[derive(Clone, Copy)]
-pub enum Next {
-    // The next record, or what is left of the input where that is less: so many bytes.
-    Bytes(usize),
-    // A part of a record: more has to come first.
-    More,
-}
-
-// The next record at the front of what has come and is not answered yet, which nothing follows where the input has
-// ended.
-pub fn next_record(rest: &[u8], ended: bool) -> Next
+// How many bytes the next record has, at the front of what has come and is not answered yet; what is left of the input
+// where that is less and nothing follows; and none where more has to come first.
+#[tactic(auto, unfolding(crate::specs::Pieces::next_in))]
+pub fn next_record(rest: &[u8], ended: bool) -> Option<usize>
     ensures { result ≡ next_in rest.now ended }
 {
     let size = size_of(rest);
     if size <= rest.len() {
-        return Next::Bytes(size);
+        return Some(size);
     }
     if ended {
-        return Next::Bytes(rest.len());
+        return Some(rest.len());
     }
-    Next::More
+    None
 }

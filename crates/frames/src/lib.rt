@@ -3,4 +3,4 @@
 
 mod frame;
 
-pub use frame::{Front, MOST_RECORD, Next, frame_of, next_record, payload, rest, size_of};
+pub use frame::{Front, MOST_RECORD, frame_of, next_record, payload, rest, size_of};

@@ -1,17 +1,18 @@
 -- The kinds of records, what their payloads mean and what is refused of them, in document 01's order. Definitions only.
 use Prim.{Unit}
-use Rattle.std.specs.Prelude.{ℕ, zero, suc, ◌+◌, ◌*◌, ◌%◌, Bool, false, not, ◌&&◌, ◌||◌, cond, List, leb, ltb, eqb, length, get_or, drop, Float}
+use Rattle.std.specs.Prelude.{ℕ, zero, suc, ◌+◌, ◌*◌, ◌%◌, Bool, false, not, ◌&&◌, ◌||◌, cond, List, leb, ltb, eqb, length, get_or, drop, Float, Ok, Err}
 use Rattle.std.specs.Float.{binary32}
 use Rattle.std.specs.Float.Ieee.{of_bits}
-use Rattle.refusals.specs.Said.{Said, value, refused, done, no}
+use Rattle.refusals.specs.Said.{Said, done}
 use Rattle.refusals.specs.Refusals.{given, or_else}
+use Rattle.refusals.specs.declared.refusal.Refusal.TheVariants.{NotAMultiple, TooLarge, Malformed, Unknown}
 use Rattle.numbers.specs.Fields.{le32}
 use Rattle.layouts.specs.Formats.{format_named}
-use Rattle.layouts.specs.declared.format.Named.{Named}
-use Rattle.layouts.specs.declared.format.Named.TheVariants.{Known, Unknown}
+use Rattle.layouts.specs.declared.format.FormatK.{FormatK}
 use Rattle.layers_shape.specs.Shapes.{weight_bytes}
 use Rattle.frames.specs.Frame.{Frame, ended, torn, whole}
-use Rattle.records.specs.Found.{Found, nothing, layer, window, warm_up}
+use Rattle.records.specs.declared.reader.Item.{Item}
+use Rattle.records.specs.declared.reader.Item.TheVariants.{End, Layer, Window, WarmUp}
 
 -- ---- Kind 1, layer: format byte (4, 5 or 6), u32 in_feat (1 to 2,048), u32 out_feat (1 to 16), then exactly the
 -- weights
@@ -43,22 +44,22 @@ up_to most n = leb 1 n && leb n most
 -- sizes out of range 6; multiple of 256, 2
 unfoldable pub sizes_refusal : (in_feat out_feat : ℕ) → Said (Unit {0})
 sizes_refusal in_feat out_feat =
-    given (no 6) (not (up_to 2048 in_feat))
-    (given (no 6) (not (up_to 16 out_feat))
-    (given (no 2) (not (eqb (in_feat % 256) 0))
+    given TooLarge (not (up_to 2048 in_feat))
+    (given TooLarge (not (up_to 16 out_feat))
+    (given NotAMultiple (not (eqb (in_feat % 256) 0))
     done))
 
 -- by what the format byte names: format 12; sizes out of range 6; multiple of 256, 2; weight length 11
-abbrev pub format_found : Named → List ℕ → Said Found
-format_found Unknown p = refused (no 12)
-format_found (Known f) p =
+abbrev pub format_found : Said FormatK → List ℕ → Said Item
+format_found (Err why) p = Err why
+format_found (Ok f) p =
     or_else (sizes_refusal (in_feat_in p) (out_feat_in p))
-    (given (no 11) (not (eqb (length p) (9 + weight_bytes f (in_feat_in p) (out_feat_in p))))
-    (value (layer (format_in p) (in_feat_in p) (out_feat_in p))))
+    (given Malformed (not (eqb (length p) (9 + weight_bytes f (in_feat_in p) (out_feat_in p))))
+    (Ok (Layer (format_in p) (in_feat_in p) (out_feat_in p))))
 
 -- a layer's payload: short layer head 11, then its format
-unfoldable pub layer_found : List ℕ → Said Found
-layer_found p = given (no 11) (ltb (length p) 9) (format_found (format_named (format_in p)) p)
+unfoldable pub layer_found : List ℕ → Said Item
+layer_found p = given Malformed (ltb (length p) 9) (format_found (format_named (format_in p)) p)
 
 -- ---- Kind 2, window: in_feat f32 values for the latest layer
 
@@ -77,20 +78,20 @@ has_zero x (suc n) = has_zero x n || eqb (le32 x (n * 4)) 0
 
 -- a window's payload: no layer, whose in_feat stands as 0, or wrong size, 11; a window holding a value with all bits
 -- zero is a warm-up window
-unfoldable pub window_found : List ℕ → (latest : ℕ) → Said Found
+unfoldable pub window_found : List ℕ → (latest : ℕ) → Said Item
 window_found p latest =
-    given (no 11) (eqb latest 0)
-    (given (no 11) (not (eqb (length (readings_in p)) (latest * 4)))
-    (value (cond (has_zero (readings_in p) latest) warm_up window)))
+    given Malformed (eqb latest 0)
+    (given Malformed (not (eqb (length (readings_in p)) (latest * 4)))
+    (Ok (cond (has_zero (readings_in p) latest) WarmUp Window)))
 
 -- ---- what stands at the front, where the latest layer takes `latest` readings, or 0 where there is none yet
 
 -- kind 1 is a layer, kind 2 a window, and any other is unknown, 12
-unfoldable pub kind_found : (kind : ℕ) → List ℕ → (latest : ℕ) → Said Found
-kind_found kind p latest = cond (eqb kind 1) (layer_found p) (given (no 12) (not (eqb kind 2)) (window_found p latest))
+unfoldable pub kind_found : (kind : ℕ) → List ℕ → (latest : ℕ) → Said Item
+kind_found kind p latest = cond (eqb kind 1) (layer_found p) (given Unknown (not (eqb kind 2)) (window_found p latest))
 
 -- nothing is left; bad or cut length 11; then by kind
-abbrev pub found : Frame → (latest : ℕ) → Said Found
-found ended latest = value nothing
-found torn latest = refused (no 11)
+abbrev pub found : Frame → (latest : ℕ) → Said Item
+found ended latest = Ok End
+found torn latest = Err Malformed
 found (whole kind p rest) latest = kind_found kind p latest

@@ -1,3 +1,2 @@
--- Document 01's "The record reader": what it finds, and the kinds of records with what they mean and what is refused.
-pub mod Found
+-- Document 01's "The record reader": the kinds of records with what they mean and what is refused.
 pub mod Kinds

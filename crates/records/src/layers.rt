@@ -1,13 +1,11 @@
 // Kind 1, a layer: format byte, u32 in_feat, u32 out_feat, then exactly the weights.
 ghost use Rattle.std.specs.Prelude.{◌≡◌};
-ghost use Rattle.refusals.specs.Said.{check_says};
-ghost use Rattle.records.specs.Found.{item_says};
 ghost use Rattle.records.specs.Kinds.{weights_in, sizes_refusal, layer_found};
 
 use crate::reader::Item;
-use layouts::Named;
+use layouts::FormatK;
 use numbers::u32_at;
-use refusals::Check;
+use refusals::Refusal;
 
 // The bytes before a layer's weights.
 const HEAD: usize = 9;
@@ -27,49 +25,47 @@ pub fn weights(p: &[u8]) -> &[u8]
 }
 
 // Why a layer's sizes are refused.
-fn sizes_refusal(in_feat: usize, out_feat: usize) -> Check
-    ensures { check_says result ≡ sizes_refusal in_feat out_feat }
+#[tactic(auto, unfolding(crate::specs::Kinds::sizes_refusal, crate::specs::Kinds::up_to, refusals::specs::Refusals::given))]
+fn sizes_refusal(in_feat: usize, out_feat: usize) -> Result<(), Refusal>
+    ensures { result ≡ sizes_refusal in_feat out_feat }
 {
     if in_feat < 1 {
-        return Check::Refused(refusals::TOO_LARGE);
+        return Err(Refusal::TooLarge);
     }
     if in_feat > MOST_LAYER_IN {
-        return Check::Refused(refusals::TOO_LARGE);
+        return Err(Refusal::TooLarge);
     }
     if out_feat < 1 {
-        return Check::Refused(refusals::TOO_LARGE);
+        return Err(Refusal::TooLarge);
     }
     if out_feat > MOST_LAYER_OUT {
-        return Check::Refused(refusals::TOO_LARGE);
+        return Err(Refusal::TooLarge);
     }
     if in_feat % 256 != 0 {
-        return Check::Refused(refusals::NOT_A_MULTIPLE);
+        return Err(Refusal::NotAMultiple);
     }
-    Check::Passed
+    Ok(())
 }
 
 // The layer record whose payload is p.
-pub(crate) fn layer_item(p: &[u8]) -> Item
-    ensures { item_says result ≡ layer_found p.now }
+#[tactic(auto, using(crate::proofs::Taken::sizes_in, refusals::proofs::Laws::handed_on), unfolding(crate::specs::Kinds::layer_found, refusals::specs::Refusals::given, refusals::specs::Refusals::or_else))]
+pub(crate) fn layer_item(p: &[u8]) -> Result<Item, Refusal>
+    ensures { result ≡ layer_found p.now }
 {
     if p.len() < HEAD {
-        return Item::Refused(refusals::MALFORMED);
+        return Err(Refusal::Malformed);
     }
     let format = p[0];
-    let Named::Known(known) = layouts::format_named(format) else {
-        return Item::Refused(refusals::UNKNOWN);
-    };
+    let known = FormatK::try_from(format)?;
     let in_feat = u32_at(p, 1);
     let out_feat = u32_at(p, 5);
-    if let Check::Refused(refusal) = sizes_refusal(in_feat, out_feat) {
-        return Item::Refused(refusal);
-    }
+    sizes_refusal(in_feat, out_feat)?;
     if p.len() - HEAD != layers_shape::weight_bytes(known, in_feat, out_feat) {
-        return Item::Refused(refusals::MALFORMED);
+        return Err(Refusal::Malformed);
     }
-    Item::Layer {
+    Ok(Item::Layer {
         format,
         in_feat,
         out_feat,
-    }
+    })
 }

@@ -2,63 +2,16 @@
 // places of output and of scratch there are, the readings, the bytes, the number that says no, 0 where there is none,
 // and what then stands in the output and in scratch.
 use layers_shape::Shape;
-use refusals::Outcome;
+use refusals::Refusal;
 use replay_answers::{Finding, STOOD, read_floats, same_floats, says, u32_at};
 
 // The floats of a slice at most: those of a row of one block more than a chunk has.
 const MOST: usize = 8_448;
 
-#[derive(Drop)]
-enum Layer {
-    Q4kFused,
-    Q5kFused,
-    Q6kFused,
-    Q4kInteger,
-    Q5kInteger,
-    Q6kInteger,
-    Q4kIntegerRs,
-    Q5kIntegerRs,
-    Q6kIntegerRs,
-    Q4kCpu,
-    Q6kCpu,
-    Q40Cpu,
-    Q40GgmlCpu,
-    Iq4NlCpu,
-}
-
-// The `_cpu` layers alone use scratch.
-fn outcome(
-    layer: Layer,
-    x: &[f32],
-    w: &[u8],
-    y: &mut [f32],
-    scratch: &mut [f32],
-    s: Shape,
-) -> Outcome {
-    let batch = s.batch;
-    let n = s.in_feat;
-    let outs = s.out_feat;
-    match layer {
-        Layer::Q4kFused => layers_fused::linear_q4_k_fused(x, w, y, batch, n, outs),
-        Layer::Q5kFused => layers_fused::linear_q5_k_fused(x, w, y, batch, n, outs),
-        Layer::Q6kFused => layers_fused::linear_q6_k_fused(x, w, y, batch, n, outs),
-        Layer::Q4kInteger => layers_integer::linear_q4_k_integer(x, w, y, batch, n, outs),
-        Layer::Q5kInteger => layers_integer::linear_q5_k_integer(x, w, y, batch, n, outs),
-        Layer::Q6kInteger => layers_integer::linear_q6_k_integer(x, w, y, batch, n, outs),
-        Layer::Q4kIntegerRs => layers_integer::linear_q4_k_integer_rs(x, w, y, batch, n, outs),
-        Layer::Q5kIntegerRs => layers_integer::linear_q5_k_integer_rs(x, w, y, batch, n, outs),
-        Layer::Q6kIntegerRs => layers_integer::linear_q6_k_integer_rs(x, w, y, batch, n, outs),
-        Layer::Q4kCpu => layers_cpu::linear_q4_k_cpu(x, w, y, scratch, batch, n, outs),
-        Layer::Q6kCpu => layers_cpu::linear_q6_k_cpu(x, w, y, scratch, batch, n, outs),
-        Layer::Q40Cpu => layers_cpu::linear_q4_0_cpu(x, w, y, scratch, batch, n, outs),
-        Layer::Q40GgmlCpu => layers_cpu::linear_q4_0_ggml_cpu(x, w, y, scratch, batch, n, outs),
-        Layer::Iq4NlCpu => layers_cpu::linear_iq4_nl_cpu(x, w, y, scratch, batch, n, outs),
-    }
-}
-
-// What ours says of readings whose bits stand in these bytes, read into x, and leaves in its memory, beside theirs.
-fn judge_memory(
-    layer: Layer,
+// What a layer says of readings whose bits stand in these bytes, read into x, and leaves in its memory, beside what is
+// stored.
+fn judge_memory<F: Fn(&[f32], &[u8], &mut [f32], &mut [f32], Shape) -> Result<(), Refusal>>(
+    layer: F,
     bytes: &[u8],
     x: &mut [f32],
     w: &[u8],
@@ -68,9 +21,11 @@ fn judge_memory(
     number: u32,
     y_left: &[u8],
     scratch_left: &[u8],
-) -> Finding {
+) -> Finding
+    requires { F.IsAlwaysCallable layer }
+{
     read_floats(bytes, x);
-    if !says(outcome(layer, x, w, y, scratch, s), number) {
+    if !says(layer(x, w, y, scratch, s), number) {
         return Finding::Differs;
     }
     if !same_floats(y_left, y) {
@@ -87,7 +42,12 @@ fn shape_of(payload: &[u8]) -> Shape {
     }
 }
 
-fn judge(layer: Layer, payload: &[u8]) -> Finding {
+fn judge<F: Fn(&[f32], &[u8], &mut [f32], &mut [f32], Shape) -> Result<(), Refusal>>(
+    layer: F,
+    payload: &[u8],
+) -> Finding
+    requires { F.IsAlwaysCallable layer }
+{
     let x_len = u32_at(payload, 12) as usize;
     let w_len = u32_at(payload, 16) as usize;
     let y_len = u32_at(payload, 20) as usize;
@@ -128,20 +88,90 @@ fn judge(layer: Layer, payload: &[u8]) -> Finding {
 // A stored answer of the layer that has this tag.
 pub fn judge_layer(tag: u8, payload: &[u8]) -> Finding {
     match tag {
-        19 => judge(Layer::Q4kFused, payload),
-        20 => judge(Layer::Q6kFused, payload),
-        21 => judge(Layer::Q4kInteger, payload),
-        22 => judge(Layer::Q6kInteger, payload),
-        23 => judge(Layer::Q4kIntegerRs, payload),
-        24 => judge(Layer::Q6kIntegerRs, payload),
-        25 => judge(Layer::Q4kCpu, payload),
-        26 => judge(Layer::Q6kCpu, payload),
-        27 => judge(Layer::Q40Cpu, payload),
-        33 => judge(Layer::Q5kFused, payload),
-        34 => judge(Layer::Q5kInteger, payload),
-        35 => judge(Layer::Q5kIntegerRs, payload),
-        38 => judge(Layer::Q40GgmlCpu, payload),
-        43 => judge(Layer::Iq4NlCpu, payload),
+        19 => judge(
+            |x, w, y, _, s| layers_fused::linear_q4_k_fused(
+                x, w, y, s.batch, s.in_feat, s.out_feat,
+            ),
+            payload,
+        ),
+        20 => judge(
+            |x, w, y, _, s| layers_fused::linear_q6_k_fused(
+                x, w, y, s.batch, s.in_feat, s.out_feat,
+            ),
+            payload,
+        ),
+        21 => judge(
+            |x, w, y, _, s| layers_integer::linear_q4_k_integer(
+                x, w, y, s.batch, s.in_feat, s.out_feat,
+            ),
+            payload,
+        ),
+        22 => judge(
+            |x, w, y, _, s| layers_integer::linear_q6_k_integer(
+                x, w, y, s.batch, s.in_feat, s.out_feat,
+            ),
+            payload,
+        ),
+        23 => judge(
+            |x, w, y, _, s| layers_integer::linear_q4_k_integer_rs(
+                x, w, y, s.batch, s.in_feat, s.out_feat,
+            ),
+            payload,
+        ),
+        24 => judge(
+            |x, w, y, _, s| layers_integer::linear_q6_k_integer_rs(
+                x, w, y, s.batch, s.in_feat, s.out_feat,
+            ),
+            payload,
+        ),
+        25 => judge(
+            |x, w, y, scratch, s| layers_cpu::linear_q4_k_cpu(
+                x, w, y, scratch, s.batch, s.in_feat, s.out_feat,
+            ),
+            payload,
+        ),
+        26 => judge(
+            |x, w, y, scratch, s| layers_cpu::linear_q6_k_cpu(
+                x, w, y, scratch, s.batch, s.in_feat, s.out_feat,
+            ),
+            payload,
+        ),
+        27 => judge(
+            |x, w, y, scratch, s| layers_cpu::linear_q4_0_cpu(
+                x, w, y, scratch, s.batch, s.in_feat, s.out_feat,
+            ),
+            payload,
+        ),
+        33 => judge(
+            |x, w, y, _, s| layers_fused::linear_q5_k_fused(
+                x, w, y, s.batch, s.in_feat, s.out_feat,
+            ),
+            payload,
+        ),
+        34 => judge(
+            |x, w, y, _, s| layers_integer::linear_q5_k_integer(
+                x, w, y, s.batch, s.in_feat, s.out_feat,
+            ),
+            payload,
+        ),
+        35 => judge(
+            |x, w, y, _, s| layers_integer::linear_q5_k_integer_rs(
+                x, w, y, s.batch, s.in_feat, s.out_feat,
+            ),
+            payload,
+        ),
+        38 => judge(
+            |x, w, y, scratch, s| layers_cpu::linear_q4_0_ggml_cpu(
+                x, w, y, scratch, s.batch, s.in_feat, s.out_feat,
+            ),
+            payload,
+        ),
+        43 => judge(
+            |x, w, y, scratch, s| layers_cpu::linear_iq4_nl_cpu(
+                x, w, y, scratch, s.batch, s.in_feat, s.out_feat,
+            ),
+            payload,
+        ),
         _ => Finding::Unknown,
     }
 }

@@ -19,11 +19,10 @@ mod stepped_layer;
 
 use replay_answers::Finding;
 
-// How far the replay is: whether it goes on, the byte at which the next record begins, and of the call whose records
-// are read the answers so far and how many of them differ.
-#[derive(Drop)]
+// How far the replay is: the byte at which the next record begins, and of the call whose records are read the answers
+// so far and how many of them differ.
+#[derive(Clone, Copy)]
 struct Replay {
-    on: bool,
     at: u64,
     answers: u64,
     differ: u64,
@@ -32,7 +31,6 @@ struct Replay {
 impl Replay {
     fn begin() -> Self {
         Replay {
-            on: true,
             at: 0,
             answers: 0,
             differ: 0,
@@ -59,34 +57,31 @@ impl Replay {
         self.differ = 0;
         self
     }
-
-    // The replay at its end.
-    fn ended(mut self, rt: &impl Print, tag: u8, finding: Finding) -> Self {
-        report::print_end(rt, finding, tag, self.at);
-        self.on = false;
-        self
-    }
 }
 
-// The next record, counted, or the end of the replay.
-fn step(rt: &HostRuntime, buf: &mut [u8], replay: Replay) -> Replay {
+// The next record, counted; none at the end of the replay.
+fn step(rt: &HostRuntime, buf: &mut [u8], replay: Replay) -> Option<Replay> {
     let record = records::next(rt, buf);
     let finding = record.finding;
     match finding {
-        Finding::Same => replay.past(record.len).counted(0),
-        Finding::Differs => replay.past(record.len).counted(1),
-        Finding::Name => replay.past(record.len).named(rt),
-        _ => replay.ended(rt, record.tag, finding),
+        Finding::Same => Some(replay.past(record.len).counted(0)),
+        Finding::Differs => Some(replay.past(record.len).counted(1)),
+        Finding::Name => Some(replay.past(record.len).named(rt)),
+        _ => {
+            report::print_end(rt, finding, record.tag, replay.at);
+            None
+        }
     }
 }
 
-// A proved loop has to end, and nothing says that the input does: it counts its turns down.
+// A proved loop has to end, and nothing says that the input does: its turns are counted.
 fn replay_all(rt: &HostRuntime, buf: &mut [u8]) {
     let mut replay = Replay::begin();
-    let mut turns = u64::MAX;
-    while turns > 0 && replay.on {
-        replay = step(rt, buf, replay);
-        turns -= 1;
+    for _ in 0..u64::MAX {
+        let Some(next) = step(rt, buf, replay) else {
+            return;
+        };
+        replay = next;
     }
 }
 

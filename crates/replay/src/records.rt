@@ -1,35 +1,15 @@
 // The sample's records, read one after the other and judged.
-ghost use Rattle.std.specs.Prelude.{◌≤◌, length};
-
 use crate::calls::judge;
+use input_bytes::read_full;
 use replay_answers::Finding;
-use std::io::{ErrorKind, Read};
 
-#[derive(Drop)]
+// A record's head, and what comes of it.
+#[derive(Clone, Copy)]
 pub struct Record {
     pub tag: u8,
     // The payload's bytes.
     pub len: usize,
     pub finding: Finding,
-}
-
-// Reads until the buffer is full, the input ends or a read fails. How many bytes then stand in front.
-fn read_full<R: Read>(input: &mut R, buf: &mut [u8]) -> usize
-    ensures { result ≤ length buf.new }
-{
-    let mut done: usize = 0;
-    for _ in 0..u64::MAX {
-        if done == buf.len() {
-            break;
-        }
-        match input.read(&mut buf[done..]) {
-            Ok(0) => break,
-            Ok(bytes) => done += bytes,
-            Err(why) if why.kind() == ErrorKind::Interrupted => {}
-            Err(_) => break,
-        }
-    }
-    done
 }
 
 // The input's next record. `buf` is room for its payload.

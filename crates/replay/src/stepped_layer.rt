@@ -21,25 +21,21 @@ fn pieces_accepted(
     slots: &mut [f32],
     marks: &mut [u8],
 ) -> bool {
-    let count = named.len() / 8;
-    let mut k: usize = 0;
-    while k < count {
+    for k in 0..named.len() / 8 {
         let row = u32_at(named, 8 * k) as usize;
         let chunk = u32_at(named, 8 * k + 4) as usize;
         if !says(stepped_pieces::piece(l, w, x, row, chunk, slots, marks), 0) {
             return false;
         }
-        k += 1;
     }
     true
 }
 
 // Whether runs of one piece do the rest, the last of them leaving none open.
 fn rest_run(l: Layer, w: &[u8], x: &[f32], slots: &mut [f32], marks: &mut [u8]) -> bool {
-    let mut turns: usize = 0;
-    while turns < PIECES {
+    for _ in 0..PIECES {
         let progress = stepped::run(l, w, x, 1, slots, marks);
-        let Progress::Ran { done, left } = progress else {
+        let Ok(Progress { done, left }) = progress else {
             return false;
         };
         if left == 0 {
@@ -48,19 +44,16 @@ fn rest_run(l: Layer, w: &[u8], x: &[f32], slots: &mut [f32], marks: &mut [u8]) 
         if done != 1 {
             return false;
         }
-        turns += 1;
     }
     false
 }
 
 // Whether each row closes.
 fn rows_close(l: Layer, slots: &[f32], marks: &[u8], y: &mut [f32]) -> bool {
-    let mut row: usize = 0;
-    while row < y.len() {
+    for row in 0..y.len() {
         if !says(stepped::close(l, row, slots, marks, y), 0) {
             return false;
         }
-        row += 1;
     }
     true
 }

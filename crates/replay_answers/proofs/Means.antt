@@ -5,11 +5,15 @@ use mathlib.Core.List.{List, ◌++◌}
 use Prim.Native.Nat.{ℕ, ◌≤◌, ◌<◌}
 use native.Mathlib.Omega.{arith}
 use borrow.Author.Tests.{eq-eqb, eqb-true, le-ltb, ltb-false}
-use lib.Dec.{T, ltb}
-use lib.ListN.{length, take, length-append, get_or-append}
+use lib.Dec.{T, ltb, eqb}
+use lib.ListN.{length, take, drop, length-append, get_or-append}
 use lib.Seq.{ext_get_or, get_or-take, length-take-le}
 use lib.Ieee.{Float, binary32, of_bits, to_bits, fits}
 use lib.Ieee.Bits.{of_bits-to_bits}
+use Rattle.std.specs.List.{starts_with}
+use Rattle.std.proofs.lemmas.List.{take-append-drop}
+use Rattle.std.proofs.lemmas.Bool.Decides.{Decides-eqb}
+use Rattle.std.proofs.lemmas.Slice.Eq.{starts_is}
 use Rattle.memory.specs.Lists.{every}
 use Rattle.memory.proofs.Every.{every_all, every_not}
 use Rattle.replay_answers.specs.Same.{same_bits, same_byte_at, same_bytes}
@@ -47,3 +51,12 @@ unfolding same_bytes
 bytes_themselves bs rest =
     let n : length bs ≤ length (bs ++ rest) = simp length-append (omega arith) in
     rw (le-ltb _ _ n) (every_all _ _ (λ i q. eq-eqb _ _ (get_or-append bs rest 0 i q)))
+
+-- what the library's `starts_with` says
+pub begins : (p bs : List ℕ) (r : Bool) → r ≡ starts_with eqb p bs → r ≡ same_bytes p bs
+begins p bs r e = by r (same_bytes p bs) refl (starts_is Decides-eqb p bs r e)
+  where
+    by : (r t : Bool) → same_bytes p bs ≡ t → (r ≡ true → p ≡ bs ++ drop (length bs) p) × ((rest : List ℕ) → p ≡ bs ++ rest → r ≡ true) → r ≡ t
+    by true t g h = sym (bytes_themselves bs (drop (length bs) p)) ∙ ap (λ (q : List ℕ). same_bytes q bs) (sym (h.0 refl)) ∙ g
+    by false false g h = refl
+    by false true g h = h.1 (drop (length bs) p) (sym (take-append-drop (length bs) p) ∙ ap (λ (q : List ℕ). q ++ drop (length bs) p) (first_bytes p bs g))

@@ -1,9 +1,9 @@
 -- When a stored answer is ours. Definitions only.
 use Prim.{Unit}
-use Rattle.std.specs.Prelude.{ℕ, Bool, true, false, cond, List, ltb, eqb, length, get_or, Float}
+use Rattle.std.specs.Prelude.{ℕ, Bool, true, false, cond, List, ltb, eqb, length, get_or, Float, Ok, Err}
 use Rattle.std.specs.Float.{nan, binary32}
 use Rattle.std.specs.Float.Ieee.{to_bits}
-use Rattle.refusals.specs.Said.{Said, value, refused}
+use Rattle.refusals.specs.Said.{Said, number}
 use Rattle.memory.specs.Lists.{every}
 use Rattle.replay_answers.specs.Payload.{float_at}
 use Rattle.replay_answers.specs.declared.findings.Finding.{Finding}
@@ -31,13 +31,13 @@ same_bytes p bs = cond (ltb (length p) (length bs)) false (every (same_byte_at p
 
 -- a call that fills lent memory, or a check, says this number: that it is done is 0
 abbrev pub says_number : Said (Unit {0}) → ℕ → Bool
-says_number (value finished) number = eqb number 0
-says_number (refused why) number = eqb why.number number
+says_number (Ok finished) theirs = eqb theirs 0
+says_number (Err why) theirs = eqb (number why) theirs
 
 -- a dot or a sum says this number, or where the number is 0 this value
 abbrev pub same_answer : Said Float → ℕ → Float → Bool
-same_answer (value v) number theirs = cond (eqb number 0) (same_bits v theirs) false
-same_answer (refused why) number theirs = eqb why.number number
+same_answer (Ok v) said theirs = cond (eqb said 0) (same_bits v theirs) false
+same_answer (Err why) said theirs = eqb (number why) said
 
 -- what comes of an answer
 abbrev pub finding_of : Bool → Finding

@@ -1,9 +1,8 @@
 // What comes of a record of the sample.
 ghost use Rattle.std.specs.Prelude.{◌≡◌};
-ghost use Rattle.refusals.specs.Said.{said_by, outcome_says, check_says};
 ghost use Rattle.replay_answers.specs.Same.{same_bits, says_number, same_answer, finding_of};
 
-use refusals::{Answer, Check, Outcome};
+use refusals::Refusal;
 
 #[derive(Clone, Copy)]
 pub enum Finding {
@@ -43,8 +42,8 @@ impl Finding {
     }
 
     // Of a dot or a sum.
-    pub fn of_answer(ours: Answer, number: u32, value: f32) -> Self
-        ensures { result ≡ finding_of (same_answer (said_by ours) number value) }
+    pub fn of_answer(ours: Result<f32, Refusal>, number: u32, value: f32) -> Self
+        ensures { result ≡ finding_of (same_answer ours number value) }
     {
         Finding::of_same(same_answer(ours, number, value))
     }
@@ -57,32 +56,22 @@ pub fn same_bits(a: f32, b: f32) -> bool
     halves::bits_of(a) == halves::bits_of(b)
 }
 
-// Whether a call that fills lent memory says this number: that it is done is 0.
-pub fn says(ours: Outcome, number: u32) -> bool
-    ensures { result ≡ says_number (outcome_says ours) number }
+// Whether a call that fills lent memory, or a check, says this number: that it is done is 0.
+pub fn says(ours: Result<(), Refusal>, number: u32) -> bool
+    ensures { result ≡ says_number ours number }
 {
     match ours {
-        Outcome::Done => number == 0,
-        Outcome::Refused(refusal) => refusal.number == number,
-    }
-}
-
-// Whether a check says this number: that nothing is refused is 0.
-pub fn check_says(ours: Check, number: u32) -> bool
-    ensures { result ≡ says_number (check_says ours) number }
-{
-    match ours {
-        Check::Passed => number == 0,
-        Check::Refused(refusal) => refusal.number == number,
+        Ok(()) => number == 0,
+        Err(refusal) => refusal.number() == number,
     }
 }
 
 // Whether a dot or a sum says this number, or, where the number is 0, this value.
-pub fn same_answer(ours: Answer, number: u32, value: f32) -> bool
-    ensures { result ≡ same_answer (said_by ours) number value }
+pub fn same_answer(ours: Result<f32, Refusal>, number: u32, value: f32) -> bool
+    ensures { result ≡ same_answer ours number value }
 {
     match ours {
-        Answer::Value(v) => number == 0 && same_bits(v, value),
-        Answer::Refused(refusal) => refusal.number == number,
+        Ok(v) => number == 0 && same_bits(v, value),
+        Err(refusal) => refusal.number() == number,
     }
 }

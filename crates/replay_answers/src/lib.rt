@@ -4,5 +4,5 @@
 mod findings;
 mod payload;
 
-pub use findings::{Finding, check_says, same_answer, same_bits, says};
+pub use findings::{Finding, same_answer, same_bits, says};
 pub use payload::{STOOD, byte_at, read_floats, same_bytes, same_floats, u32_at};

@@ -10,6 +10,7 @@ use crate::findings::same_bits;
 pub const STOOD: f32 = -1.5;
 
 // The u32 at a place; 0 where the payload ends before it does.
+#[tactic(auto, unfolding(crate::specs::Payload::u32_at))]
 pub fn u32_at(payload: &[u8], at: usize) -> u32
     ensures { result ≡ u32_at payload.now at }
 {
@@ -36,13 +37,12 @@ pub fn byte_at(payload: &[u8], at: usize) -> u8
 }
 
 // The payload's first floats, as many as there are places for them.
+#[tactic(auto, using(memory::proofs::Filled::filling_done))]
 pub fn read_floats(payload: &[u8], out: &mut [f32])
     ensures { out.new ≡ table (float_at payload.now) (length out.old) }
 {
-    let mut i: usize = 0;
-    while i < out.len() {
-        out[i] = halves::of_bits(u32_at(payload, 4 * i));
-        i += 1;
+    for (i, float) in out.iter_mut().enumerate() {
+        *float = halves::of_bits(u32_at(payload, 4 * i));
     }
 }
 
@@ -50,12 +50,10 @@ pub fn read_floats(payload: &[u8], out: &mut [f32])
 pub fn same_floats(payload: &[u8], floats: &[f32]) -> bool
     ensures { result ≡ same_floats payload.now floats.now }
 {
-    let mut i: usize = 0;
-    while i < floats.len() {
-        if !same_bits(floats[i], halves::of_bits(u32_at(payload, 4 * i))) {
+    for (i, &float) in floats.iter().enumerate() {
+        if !same_bits(float, halves::of_bits(u32_at(payload, 4 * i))) {
             return false;
         }
-        i += 1;
     }
     true
 }
@@ -64,15 +62,5 @@ pub fn same_floats(payload: &[u8], floats: &[f32]) -> bool
 pub fn same_bytes(payload: &[u8], bytes: &[u8]) -> bool
     ensures { result ≡ same_bytes payload.now bytes.now }
 {
-    if payload.len() < bytes.len() {
-        return false;
-    }
-    let mut i: usize = 0;
-    while i < bytes.len() {
-        if payload[i] != bytes[i] {
-            return false;
-        }
-        i += 1;
-    }
-    true
+    payload.starts_with(bytes)
 }

@@ -1,23 +1,27 @@
 // Activation blocks, and the dots of a packed block and an activation block.
 use crate::blocks::{BLOCK, read_block, same_blocks};
 use dots_activation::Q8Block;
-use layouts::FormatK;
-use refusals::Answer;
-use replay_answers::{Finding, check_says, read_floats, u32_at};
+use refusals::Refusal;
+use replay_answers::{Finding, read_floats, u32_at};
 
 // The readings at most: one more than a block has.
 const READINGS: usize = 257;
 
+// The block that stands in a payload beside a refusal.
+const NO_BLOCK: Q8Block = Q8Block {
+    d: 0.0,
+    qs: [0; 256],
+    bsums: [0; 8],
+    count: 0,
+};
+
 // Our block of readings whose bits stand in these bytes, read into x, beside theirs.
 fn judge_block(bytes: &[u8], x: &mut [f32], number: u32, theirs: Q8Block) -> Finding {
     read_floats(bytes, x);
-    let ours = dots_activation::quantize_block_q8(x);
-    let checked = ours.checked;
-    let block = ours.block;
-    if !check_says(checked, number) {
-        return Finding::Differs;
-    }
-    Finding::of_same(same_blocks(block, theirs))
+    Finding::of_same(match dots_activation::quantize_block_q8(x) {
+        Ok(ours) => number == 0 && same_blocks(ours, theirs),
+        Err(refusal) => refusal.number() == number && same_blocks(NO_BLOCK, theirs),
+    })
 }
 
 // A payload is how many readings there are, the readings, the number that says no, 0 where there is none, and the
@@ -38,17 +42,14 @@ fn judge_quantize_block_q8(payload: &[u8]) -> Finding {
     judge_block(&payload[4..end], &mut x[..count], number, theirs)
 }
 
-fn block_dot(format: FormatK, w: &[u8], xq: Q8Block, n: usize) -> Answer {
-    match format {
-        FormatK::Q4K => dots_integer::dot_q4k_q8_block(w, xq, n),
-        FormatK::Q5K => dots_integer::dot_q5k_q8_block(w, xq, n),
-        FormatK::Q6K => dots_integer::dot_q6k_q8_block(w, xq, n),
-    }
-}
-
 // A payload is n, how many packed bytes there are, these, the activation block, the number that says no, 0 where there
 // is none, and the value.
-fn judge_block_dot(format: FormatK, payload: &[u8]) -> Finding {
+fn judge_block_dot<F: Fn(&[u8], Q8Block, usize) -> Result<f32, Refusal>>(
+    dot: F,
+    payload: &[u8],
+) -> Finding
+    requires { F.IsAlwaysCallable dot }
+{
     let n = u32_at(payload, 0) as usize;
     let count = u32_at(payload, 4) as usize;
     let block = 8 + count;
@@ -59,16 +60,16 @@ fn judge_block_dot(format: FormatK, payload: &[u8]) -> Finding {
     let number = u32_at(payload, end);
     let value = halves::of_bits(u32_at(payload, end + 4));
     let xq = read_block(&payload[block..end]);
-    Finding::of_answer(block_dot(format, &payload[8..block], xq, n), number, value)
+    Finding::of_answer(dot(&payload[8..block], xq, n), number, value)
 }
 
 // A stored answer of the call that has this tag.
 pub fn judge_activation_block(tag: u8, payload: &[u8]) -> Finding {
     match tag {
         13 => judge_quantize_block_q8(payload),
-        14 => judge_block_dot(FormatK::Q4K, payload),
-        15 => judge_block_dot(FormatK::Q6K, payload),
-        31 => judge_block_dot(FormatK::Q5K, payload),
+        14 => judge_block_dot(|w, xq, n| dots_integer::dot_q4k_q8_block(w, xq, n), payload),
+        15 => judge_block_dot(|w, xq, n| dots_integer::dot_q6k_q8_block(w, xq, n), payload),
+        31 => judge_block_dot(|w, xq, n| dots_integer::dot_q5k_q8_block(w, xq, n), payload),
         _ => Finding::Unknown,
     }
 }

@@ -2,7 +2,8 @@
 // number that says no, 0 where there is none, how many blocks' scales were flushed and how many were sent to infinity, 0
 // where there is a number, and what then stands in the output.
 use crate::given_scales::judge_given;
-use quantizers::{Lost, Packing};
+use quantizers::Lost;
+use refusals::Refusal;
 use replay_answers::{Finding, read_floats, same_bytes, u32_at};
 
 // The places of an output at most: two blocks of Q8_0, and one place more.
@@ -12,44 +13,29 @@ pub(crate) const STOOD: u8 = 0xEE;
 // The readings at most: two blocks, and one reading more.
 pub(crate) const READINGS: usize = 65;
 
-// The quantizers that pick a scale for each block.
-#[derive(Drop)]
-enum Quantizer {
-    Q40,
-    Q40Ggml,
-    Q80,
-}
-
-fn quantize(quantizer: Quantizer, data: &[f32], out: &mut [u8]) -> Packing {
-    match quantizer {
-        Quantizer::Q40 => quantizers::quantize_q4_0(data, out),
-        Quantizer::Q40Ggml => quantizers::quantize_q4_0_ggml(data, out),
-        Quantizer::Q80 => quantizers::quantize_q8_0(data, out),
-    }
-}
-
 // Whether a quantizer says this number or, where the number is 0, that so many scales were lost.
-fn says(ours: Packing, number: u32, lost: Lost) -> bool {
+fn says_lost(ours: Result<Lost, Refusal>, number: u32, lost: Lost) -> bool {
     match ours {
-        Packing::Packed(counts) => {
+        Ok(counts) => {
             number == 0 && counts.flushed == lost.flushed && counts.infinite == lost.infinite
         }
-        Packing::Refused(refusal) => refusal.number == number,
+        Err(refusal) => refusal.number() == number,
     }
 }
 
-// What ours says and leaves in its output on readings whose bits stand in these bytes, read into `data`, beside theirs.
-fn judge_output(
-    quantizer: Quantizer,
+// What a quantizer says and leaves in its output on readings whose bits stand in these bytes, read into `data`, beside
+// what is stored: `agrees` calls it, and says whether it says what is stored.
+pub(crate) fn judge_output<F: Fn(&[f32], &mut [u8]) -> bool>(
+    agrees: F,
     bytes: &[u8],
     data: &mut [f32],
     out: &mut [u8],
-    number: u32,
-    lost: Lost,
     left: &[u8],
-) -> Finding {
+) -> Finding
+    requires { F.IsAlwaysCallable agrees }
+{
     read_floats(bytes, data);
-    if !says(quantize(quantizer, data, out), number, lost) {
+    if !agrees(data, out) {
         return Finding::Differs;
     }
     Finding::of_same(same_bytes(left, out))
@@ -63,7 +49,12 @@ fn read_lost(counts: &[u8]) -> Lost {
     }
 }
 
-fn judge_quantize(quantizer: Quantizer, payload: &[u8]) -> Finding {
+fn judge_quantize<F: Fn(&[f32], &mut [u8]) -> Result<Lost, Refusal>>(
+    quantize: F,
+    payload: &[u8],
+) -> Finding
+    requires { F.IsAlwaysCallable quantize }
+{
     let room = u32_at(payload, 0) as usize;
     let count = u32_at(payload, 4) as usize;
     if room > ROOM {
@@ -82,12 +73,10 @@ fn judge_quantize(quantizer: Quantizer, payload: &[u8]) -> Finding {
     let mut data = [0.0f32; READINGS];
     let mut out = [STOOD; ROOM];
     judge_output(
-        quantizer,
+        |data, out| says_lost(quantize(data, out), number, lost),
         &payload[8..end],
         &mut data[..count],
         &mut out[..room],
-        number,
-        lost,
         &payload[left..],
     )
 }
@@ -95,9 +84,12 @@ fn judge_quantize(quantizer: Quantizer, payload: &[u8]) -> Finding {
 // A stored answer of the call that has this tag.
 pub fn judge_block_quantizer(tag: u8, payload: &[u8]) -> Finding {
     match tag {
-        11 => judge_quantize(Quantizer::Q40, payload),
-        12 => judge_quantize(Quantizer::Q80, payload),
-        37 => judge_quantize(Quantizer::Q40Ggml, payload),
+        11 => judge_quantize(|data, out| quantizers::quantize_q4_0(data, out), payload),
+        12 => judge_quantize(|data, out| quantizers::quantize_q8_0(data, out), payload),
+        37 => judge_quantize(
+            |data, out| quantizers::quantize_q4_0_ggml(data, out),
+            payload,
+        ),
         42 => judge_given(payload),
         _ => Finding::Unknown,
     }

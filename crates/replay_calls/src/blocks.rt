@@ -1,42 +1,34 @@
 // An activation block as it stands in a payload: its scale, its quants, a byte each, its sums, each as the bits of an
 // i32, and its count.
-ghost use Rattle.std.specs.Prelude.{◌≡◌};
-ghost use Rattle.memory.specs.Lists.{every};
-ghost use Rattle.dots_activation.specs.Whole.{elem, eq_z};
+ghost use Rattle.std.specs.Prelude.{◌≡◌, ◌==◌, ◌&&◌};
+ghost use Rattle.std.specs.Ordering.{int_eq};
+ghost use Rattle.std.specs.Cmp.Lexicographic.{pointwise};
+ghost use Rattle.replay_answers.specs.Same.{same_bits};
 
 use dots_activation::Q8Block;
 use replay_answers::{byte_at, same_bits, u32_at};
 
 // The bytes of a block.
 pub const BLOCK: usize = 296;
-// Where its quants begin, where its sums do, and where its count does.
+// Where its quants begin ..
 const QUANTS: usize = 4;
-
+// .. where its sums do ..
 const SUMS: usize = 260;
-
+// .. and where its count does.
 const COUNT: usize = 292;
 
 fn read_quants(payload: &[u8]) -> [i8; 256] {
     let mut qs = [0i8; 256];
-    for i in 0..256usize {
-        qs[i] = numbers::signed_byte(byte_at(payload, QUANTS + i));
+    for (i, quant) in qs.iter_mut().enumerate() {
+        *quant = numbers::signed_byte(byte_at(payload, QUANTS + i));
     }
     qs
 }
 
-// Bits as a signed number, in two's complement.
-fn signed(bits: u32) -> i32 {
-    if bits < 0x8000_0000 {
-        bits as i32
-    } else {
-        -1 - ((0xFFFF_FFFF - bits) as i32)
-    }
-}
-
 fn read_sums(payload: &[u8]) -> [i32; 8] {
     let mut sums = [0i32; 8];
-    for j in 0..8usize {
-        sums[j] = signed(u32_at(payload, SUMS + 4 * j));
+    for (j, sum) in sums.iter_mut().enumerate() {
+        *sum = u32_at(payload, SUMS + 4 * j).cast_signed();
     }
     sums
 }
@@ -55,32 +47,11 @@ pub fn read_block(payload: &[u8]) -> Q8Block {
     }
 }
 
-fn same_quants(a: &[i8; 256], b: &[i8; 256]) -> bool
-    ensures { result ≡ every (λ i. eq_z (elem a.now i) (elem b.now i)) 256 }
-{
-    for i in 0..256usize {
-        if a[i] != b[i] {
-            return false;
-        }
-    }
-    true
-}
-
-fn same_sums(a: &[i32; 8], b: &[i32; 8]) -> bool
-    ensures { result ≡ every (λ j. eq_z (elem a.now j) (elem b.now j)) 8 }
-{
-    for j in 0..8usize {
-        if a[j] != b[j] {
-            return false;
-        }
-    }
-    true
-}
-
 // Whether two blocks have the same scale, quants, sums and count.
-pub fn same_blocks(a: Q8Block, b: Q8Block) -> bool {
-    same_bits(a.d, b.d)
-        && a.count == b.count
-        && same_quants(&a.qs, &b.qs)
-        && same_sums(&a.bsums, &b.bsums)
+pub fn same_blocks(a: Q8Block, b: Q8Block) -> bool
+    ensures { result
+        ≡ (same_bits a.d b.d && (a.count == b.count && (pointwise int_eq a.qs b.qs
+        && pointwise int_eq a.bsums b.bsums))) }
+{
+    same_bits(a.d, b.d) && a.count == b.count && a.qs == b.qs && a.bsums == b.bsums
 }

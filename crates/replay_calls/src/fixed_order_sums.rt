@@ -1,43 +1,34 @@
 // The fixed-order sums.
-use refusals::Answer;
+use refusals::Refusal;
 use replay_answers::{Finding, read_floats, same_bits, same_floats, u32_at};
 
 // The places of a row at most: one more than a chunk has.
 const MOST: usize = 8_193;
 
-// The calls on rows of readings and weights.
-#[derive(Drop)]
-enum OfRows {
-    Chunk,
-    Dot,
-    Sum,
-}
-
-fn answer(call: OfRows, x: &[f32], w: &[f32], n: usize) -> Answer {
-    match call {
-        OfRows::Chunk => sums_lanes::canonical_chunk(x, w),
-        OfRows::Dot => sums::canonical_dot_pub(x, w, n),
-        OfRows::Sum => sums::canonical_sum_pub(x, n),
-    }
-}
-
 // Our answer on rows whose bits stand in these bytes, read into x and w.
-fn answer_on(
-    call: OfRows,
+fn answer_on<F: Fn(&[f32], &[f32], usize) -> Result<f32, Refusal>>(
+    call: F,
     n: usize,
     x_bytes: &[u8],
     w_bytes: &[u8],
     x: &mut [f32],
     w: &mut [f32],
-) -> Answer {
+) -> Result<f32, Refusal>
+    requires { F.IsAlwaysCallable call }
+{
     read_floats(x_bytes, x);
     read_floats(w_bytes, w);
-    answer(call, x, w, n)
+    call(x, w, n)
 }
 
 // A payload is n, how many readings and weights there are, these, the number that says no, 0 where there is none, and
 // the value. A call that takes no n or no weights has 0 there.
-fn judge_rows(call: OfRows, payload: &[u8]) -> Finding {
+fn judge_rows<F: Fn(&[f32], &[f32], usize) -> Result<f32, Refusal>>(
+    call: F,
+    payload: &[u8],
+) -> Finding
+    requires { F.IsAlwaysCallable call }
+{
     let n = u32_at(payload, 0) as usize;
     let x_len = u32_at(payload, 4) as usize;
     let w_len = u32_at(payload, 8) as usize;
@@ -96,10 +87,10 @@ fn judge_canonical_combine(payload: &[u8]) -> Finding {
 // A stored answer of the call that has this tag.
 pub fn judge_fixed_order_sum(tag: u8, payload: &[u8]) -> Finding {
     match tag {
-        7 => judge_rows(OfRows::Chunk, payload),
+        7 => judge_rows(|x, w, _| sums_lanes::canonical_chunk(x, w), payload),
         8 => judge_canonical_combine(payload),
-        9 => judge_rows(OfRows::Dot, payload),
-        10 => judge_rows(OfRows::Sum, payload),
+        9 => judge_rows(|x, w, n| sums::canonical_dot_pub(x, w, n), payload),
+        10 => judge_rows(|x, _, n| sums::canonical_sum_pub(x, n), payload),
         _ => Finding::Unknown,
     }
 }

@@ -1,38 +1,29 @@
 // The dots of a row of readings and a row of packed blocks: in whole numbers, and fused.
-use refusals::Answer;
+use refusals::Refusal;
 use replay_answers::{Finding, read_floats, u32_at};
 
 // The readings of a row at most: one more than a chunk has.
 const MOST: usize = 8_193;
 
-#[derive(Drop)]
-enum RowDot {
-    IntegerQ4k,
-    IntegerQ5k,
-    FusedQ4k,
-    FusedQ5k,
-    FusedQ6k,
-}
-
-fn answer(dot: RowDot, x: &[f32], w: &[u8], n: usize) -> Answer {
-    match dot {
-        RowDot::IntegerQ4k => dots_integer_row::integer_dot_q4k(x, w, n),
-        RowDot::IntegerQ5k => dots_integer_row::integer_dot_q5k(x, w, n),
-        RowDot::FusedQ4k => dots_fused::canonical_dot_q4k_fused(x, w, n),
-        RowDot::FusedQ5k => dots_fused::canonical_dot_q5k_fused(x, w, n),
-        RowDot::FusedQ6k => dots_fused::q6k_fused_f32_dot(x, w, n),
-    }
-}
-
 // Our answer on readings whose bits stand in these bytes, read into x.
-fn answer_on(dot: RowDot, n: usize, bytes: &[u8], x: &mut [f32], w: &[u8]) -> Answer {
+fn answer_on<F: Fn(&[f32], &[u8], usize) -> Result<f32, Refusal>>(
+    dot: F,
+    n: usize,
+    bytes: &[u8],
+    x: &mut [f32],
+    w: &[u8],
+) -> Result<f32, Refusal>
+    requires { F.IsAlwaysCallable dot }
+{
     read_floats(bytes, x);
-    answer(dot, x, w, n)
+    dot(x, w, n)
 }
 
 // A payload is n, how many readings and packed bytes there are, these, the number that says no, 0 where there is none,
 // and the value.
-fn judge_row(dot: RowDot, payload: &[u8]) -> Finding {
+fn judge_row<F: Fn(&[f32], &[u8], usize) -> Result<f32, Refusal>>(dot: F, payload: &[u8]) -> Finding
+    requires { F.IsAlwaysCallable dot }
+{
     let n = u32_at(payload, 0) as usize;
     let x_len = u32_at(payload, 4) as usize;
     let w_len = u32_at(payload, 8) as usize;
@@ -60,11 +51,23 @@ fn judge_row(dot: RowDot, payload: &[u8]) -> Finding {
 // A stored answer of the call that has this tag.
 pub fn judge_row_dot(tag: u8, payload: &[u8]) -> Finding {
     match tag {
-        16 => judge_row(RowDot::IntegerQ4k, payload),
-        17 => judge_row(RowDot::FusedQ4k, payload),
-        18 => judge_row(RowDot::FusedQ6k, payload),
-        30 => judge_row(RowDot::FusedQ5k, payload),
-        32 => judge_row(RowDot::IntegerQ5k, payload),
+        16 => judge_row(
+            |x, w, n| dots_integer_row::integer_dot_q4k(x, w, n),
+            payload,
+        ),
+        17 => judge_row(
+            |x, w, n| dots_fused::canonical_dot_q4k_fused(x, w, n),
+            payload,
+        ),
+        18 => judge_row(|x, w, n| dots_fused::q6k_fused_f32_dot(x, w, n), payload),
+        30 => judge_row(
+            |x, w, n| dots_fused::canonical_dot_q5k_fused(x, w, n),
+            payload,
+        ),
+        32 => judge_row(
+            |x, w, n| dots_integer_row::integer_dot_q5k(x, w, n),
+            payload,
+        ),
         _ => Finding::Unknown,
     }
 }

@@ -7,13 +7,16 @@ use lib.Dec.{lit≤}
 use lib.ListN.{length, take, drop}
 use lib.Seq.{length-take-le, take_at}
 use lib.Ieee.{Float}
-use Rattle.refusals.specs.Said.{Said, value, refused}
+use Rattle.refusals.specs.Said.{Said}
+use Rattle.std.proofs.Common.{Ok, Err}
 use Rattle.frames.specs.Frame.{frame_of, payload_of}
-use Rattle.records.specs.Found.{Found, nothing, layer, window, warm_up, item_says}
+use Rattle.records.specs.declared.reader.Item.{Item}
+use Rattle.records.specs.declared.reader.Item.TheVariants.{End, Layer, Window, WarmUp}
 use Rattle.records.specs.Kinds.{weights_in, readings_in, found}
 use Rattle.records.proofs.Taken.{few_weights, window_read}
 use Rattle.stepped_shape.specs.Layer.{layer_of}
 use Rattle.fillin_text.specs.Text.{laid}
+use Rattle.fillin_lines.specs.declared.lines.Line.{Line}
 use Rattle.fillin_lines.specs.declared.lines.Line.TheVariants.{Layer}
 use Rattle.fillin_window.specs.Windows.{Sound, readings_of, outputs_of}
 use Rattle.fillin_window.proofs.Many.{as_many}
@@ -44,85 +47,81 @@ module _ (st : State) (s weights : List ℕ) where
     fits : st.weight_bytes ≤ length weights
     fits = omega (arith, few_kept st sound)
 
-    -- where no layer is read, the weights stay
+    -- where no Layer is read, the weights stay
     stays : weights ≡ laid weights 0 latest
     stays = own_front weights st.weight_bytes fits
 
-  concluded : (f : Said Found) (d : Decided) (y : List Float) (left : List ℕ) → found (frame_of s) st.layer.in_feat ≡ f
+  concluded : (f : Said Item) (d : Decided) (y : List Float) (left : List ℕ) → found (frame_of s) st.layer.in_feat ≡ f
       → Decides (decided f (payload_of (frame_of s)) (length s) st latest) d y
       → left ≡ laid weights 0 (decided f (payload_of (frame_of s)) (length s) st latest).weights
       → Decides (answer_to st latest s) d y × (left ≡ laid weights 0 (answer_to st latest s).weights)
   unfolding answer_to
   concluded f d y left e q l =
       subst
-      (λ (g : Said Found). Decides (decided g (payload_of (frame_of s)) (length s) st latest) d y × (left ≡ laid weights 0 (decided g (payload_of (frame_of s)) (length s) st latest).weights))
+      (λ (g : Said Item). Decides (decided g (payload_of (frame_of s)) (length s) st latest) d y × (left ≡ laid weights 0 (decided g (payload_of (frame_of s)) (length s) st latest).weights))
       (sym e)
       (q, l)
+
+-- what was read, by its case
+read_as : {said r : Said Item} {i case : Item} → r ≡ said → r ≡ Ok i → i ≡ case → said ≡ Ok case
+read_as e is e' = sym e ∙ is ∙ ap Ok e'
 
 -- ---- the calls
 pub take_layer-requires : goal.take_layer-requires
 take_layer-requires c =
-    let t = c in
-    let l = layer_sound _ (frame_of t.args.«record».now) _ _ _ (sym c.read.ensures ∙ ap item_says c.in-Layer.is) in
+    let l = layer_sound _ (frame_of c.args.«record».now) _ _ _ (read_as c.read.ensures c.in-Ok-Layer.is c.in-Ok-Layer.field-0-is) in
     let few = few_weights l.known _ _ l.inputs l.outputs in
     (rw c.payload.ensures (omega (arith, l.weighed, few, c.requires.sound.1)), c.requires.record_bound.0)
 
 pub slice_bounds-answer_window-end : goal.slice_bounds-answer_window-end
 slice_bounds-answer_window-end c = fits c.args.st c.args.«record».now c.args.weights.now c.requires.sound.0 c.requires.sound.1
 
-pub slice_bounds-answer_window-end-in-Window : goal.slice_bounds-answer_window-end-in-Window
-slice_bounds-answer_window-end-in-Window c = sym (length-take-le _ _ (fits c.args.st c.args.«record».now c.args.weights.now c.requires.sound.0 c.requires.sound.1))
+pub slice_bounds-answer_window-end-in-Ok-Window : goal.slice_bounds-answer_window-end-in-Ok-Window
+slice_bounds-answer_window-end-in-Ok-Window c = sym (length-take-le _ _ (fits c.args.st c.args.«record».now c.args.weights.now c.requires.sound.0 c.requires.sound.1))
 
 pub answer_window-requires : goal.answer_window-requires
 answer_window-requires c =
-    let t = c in
-    let kept : length (take t.args.st.weight_bytes t.args.weights.now) ≡ t.args.st.weight_bytes = length-take-le _ _ (fits c.args.st c.args.«record».now c.args.weights.now c.requires.sound.0 c.requires.sound.1) in
-    record { sound = (rw kept c.requires.sound.0, c.requires.sound.2, ap length c.payload-in-Window.ensures ∙ window_read _ (frame_of t.args.«record».now) (sym c.read.ensures ∙ ap item_says c.in-Window.is)); size_bound = c.requires.record_bound }
+    let kept : length (take c.args.st.weight_bytes c.args.weights.now) ≡ c.args.st.weight_bytes = length-take-le _ _ (fits c.args.st c.args.«record».now c.args.weights.now c.requires.sound.0 c.requires.sound.1) in
+    record { sound = (rw kept c.requires.sound.0, c.requires.sound.2, ap length c.payload-in-Ok-Window.ensures ∙ window_read _ (frame_of c.args.«record».now) (read_as c.read.ensures c.in-Ok-Window.is c.in-Ok-Window.field-0-is)); size_bound = c.requires.record_bound }
 
 -- ---- the answers
-pub returns-in-End : goal.returns-in-End
-returns-in-End c =
-    let t = c in
-    let both = concluded t.args.st t.args.«record».now t.args.weights.now (value nothing) _ _ _ (sym c.read.ensures ∙ ap item_says c.in-End.is) (silent _ _ _ refl refl) (stays t.args.st t.args.«record».now t.args.weights.now t.requires.sound.0 t.requires.sound.1) in
+pub returns-in-Ok-End : goal.returns-in-Ok-End
+returns-in-Ok-End c =
+    let both = concluded c.args.st c.args.«record».now c.args.weights.now (Ok End) _ _ _ (read_as c.read.ensures c.in-Ok-End.is c.in-Ok-End.field-0-is) (silent _ _ _ refl refl) (stays c.args.st c.args.«record».now c.args.weights.now c.requires.sound.0 c.requires.sound.1) in
     record { decides = both.0; weights_after = both.1 }
 
-pub returns-in-Layer : goal.returns-in-Layer
-returns-in-Layer c =
+pub returns-in-Ok-Layer : goal.returns-in-Ok-Layer
+returns-in-Ok-Layer c =
     let e = c.take_layer.ensures in
     let p = c.payload.ensures in
-    let t = c in
-    let st = t.args.st in
-    let weights = t.args.weights.now in
-    let line = Layer c.in-Layer.format c.in-Layer.in_feat c.in-Layer.out_feat in
-    let l = layer_of c.in-Layer.format c.in-Layer.in_feat c.in-Layer.out_feat in
-    let same = ap (λ (q : List ℕ). saying line 0 (with_layer l (length (weights_in q)) (behind (length t.args.«record».now) st))) p in
-    let both = concluded st t.args.«record».now weights (value (layer c.in-Layer.format c.in-Layer.in_feat c.in-Layer.out_feat)) _ _ _ (sym c.read.ensures ∙ ap item_says c.in-Layer.is) (silent _ _ _ (e.value ∙ same) refl) (e.weights_after ∙ ap (λ (q : List ℕ). laid weights 0 (weights_in q)) p) in
+    let st = c.args.st in
+    let weights = c.args.weights.now in
+    let line : Line = Layer c.in-Ok-Layer.format c.in-Ok-Layer.in_feat c.in-Ok-Layer.out_feat in
+    let l = layer_of c.in-Ok-Layer.format c.in-Ok-Layer.in_feat c.in-Ok-Layer.out_feat in
+    let same = ap (λ (q : List ℕ). saying line 0 (with_layer l (length (weights_in q)) (behind (length c.args.«record».now) st))) p in
+    let both = concluded st c.args.«record».now weights (Ok (Layer c.in-Ok-Layer.format c.in-Ok-Layer.in_feat c.in-Ok-Layer.out_feat)) _ _ _ (read_as c.read.ensures c.in-Ok-Layer.is c.in-Ok-Layer.field-0-is) (silent _ _ _ (e.value ∙ same) refl) (e.weights_after ∙ ap (λ (q : List ℕ). laid weights 0 (weights_in q)) p) in
     record { decides = both.0; weights_after = both.1 }
 
-pub returns-in-Window : goal.returns-in-Window
-returns-in-Window c =
+pub returns-in-Ok-Window : goal.returns-in-Ok-Window
+returns-in-Ok-Window c =
     let e = c.answer_window.ensures in
-    let p = c.payload-in-Window.ensures in
-    let t = c in
-    let st = t.args.st in
-    let s = t.args.«record».now in
-    let weights = t.args.weights.now in
+    let p = c.payload-in-Ok-Window.ensures in
+    let st = c.args.st in
+    let s = c.args.«record».now in
+    let weights = c.args.weights.now in
     let l = st.layer in
     let kept = take st.weight_bytes weights in
-    let rest = drop l.out_feat t.args.y.now in
+    let rest = drop l.out_feat c.args.y.now in
     let shown = e.y_after ∙ ap (λ (q : List ℕ). outputs_of l kept (readings_of (readings_in q) l) ++ rest) p in
-    let both = concluded st s weights (value window) _ _ _ (sym c.read.ensures ∙ ap item_says c.in-Window.is) (shows _ _ l.out_feat _ rest e.value shown (as_many l _ c.requires.sound.0 _ _) c.requires.sound.0.outputs) (stays st s weights c.requires.sound.0 c.requires.sound.1) in
+    let both = concluded st s weights (Ok Window) _ _ _ (read_as c.read.ensures c.in-Ok-Window.is c.in-Ok-Window.field-0-is) (shows _ _ l.out_feat _ rest e.value shown (as_many l _ c.requires.sound.0 _ _) c.requires.sound.0.outputs) (stays st s weights c.requires.sound.0 c.requires.sound.1) in
     record { decides = both.0; weights_after = both.1 }
 
-pub returns-in-WarmUp : goal.returns-in-WarmUp
-returns-in-WarmUp c =
-    let t = c in
-    let both = concluded t.args.st t.args.«record».now t.args.weights.now (value warm_up) _ _ _ (sym c.read.ensures ∙ ap item_says c.in-WarmUp.is) (silent _ _ _ c.refuse_window.ensures refl) (stays t.args.st t.args.«record».now t.args.weights.now t.requires.sound.0 t.requires.sound.1) in
+pub returns-in-Ok-WarmUp : goal.returns-in-Ok-WarmUp
+returns-in-Ok-WarmUp c =
+    let both = concluded c.args.st c.args.«record».now c.args.weights.now (Ok WarmUp) _ _ _ (read_as c.read.ensures c.in-Ok-WarmUp.is c.in-Ok-WarmUp.field-0-is) (silent _ _ _ c.refuse_window.ensures refl) (stays c.args.st c.args.«record».now c.args.weights.now c.requires.sound.0 c.requires.sound.1) in
     record { decides = both.0; weights_after = both.1 }
 
-pub returns-in-Refused : goal.returns-in-Refused
-returns-in-Refused c =
-    let k = c in
-    let t = k in
-    let both = concluded t.args.st t.args.«record».now t.args.weights.now (refused k.in-Refused.why) _ _ _ (sym k.read.ensures ∙ ap item_says k.in-Refused.is) (silent _ _ _ c.stop.ensures refl) (stays t.args.st t.args.«record».now t.args.weights.now t.requires.sound.0 t.requires.sound.1) in
+pub returns-in-Err : goal.returns-in-Err
+returns-in-Err c =
+    let both = concluded c.args.st c.args.«record».now c.args.weights.now (Err c.in-Err.why) _ _ _ (sym c.read.ensures ∙ c.in-Err.is) (silent _ _ _ c.stop.ensures refl) (stays c.args.st c.args.«record».now c.args.weights.now c.requires.sound.0 c.requires.sound.1) in
     record { decides = both.0; weights_after = both.1 }

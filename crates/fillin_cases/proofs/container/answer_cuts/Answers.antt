@@ -1,4 +1,4 @@
--- `container::answer_cuts` is safe and ends. The measure is the cuts left. Assumes nothing.
+-- `container::answer_cuts` is safe: a cut lies within the file. Assumes nothing.
 use Rattle.std.proofs.Common.{◌-◌, length, arith, length-take}
 use Rattle.fillin_cases.proofs.container.answer_cuts.Goals as goal
 

@@ -8,14 +8,10 @@ use Rattle.fillin_lines.proofs.whole.word_and_two.Goals as goal
 
 pub returns : goal.returns
 returns c =
-    let p = c in
-    let q = p in
-    let r = q in
-    let s = r in
-    let args = s.args in
-    let word = first args.line.now args.word.now s.put-a.ensures.line_after s.put-a.ensures.value in
-    let one = next (field args.one) word r.put_field-b.ensures.line_after r.put_field-b.ensures.value.0 in
-    let two = next (field args.two) one q.put_field-c.ensures.line_after q.put_field-c.ensures.value.0 in
+    let args = c.args in
+    let word = first args.line.now args.word.now c.put-a.ensures.line_after c.put-a.ensures.value in
+    let one = next (field args.one) word c.put_field-b.ensures.line_after c.put_field-b.ensures.value.0 in
+    let two = next (field args.two) one c.put_field-c.ensures.line_after c.put_field-c.ensures.value.0 in
     let text = args.word.now ++ (field args.one ++ (field args.two ++ newline)) in
-    let whole : Written args.line.now text p.put.new.line p.put.result = named (simp append_assoc) (next newline two p.put.ensures.line_after p.put.ensures.value) in
-    record { line_after = whole.holds; value = (whole.ends, omega (arith, p.put.ensures.value, q.put_field-c.ensures.value.1, r.put_field-b.ensures.value.1, s.put-a.ensures.value)) }
+    let whole : Written args.line.now text c.put.new.line c.put.result = named (simp append_assoc) (next newline two c.put.ensures.line_after c.put.ensures.value) in
+    record { line_after = whole.holds; value = (whole.ends, omega (arith, c.put.ensures.value, c.put_field-c.ensures.value.1, c.put_field-b.ensures.value.1, c.put-a.ensures.value)) }

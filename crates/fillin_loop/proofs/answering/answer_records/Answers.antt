@@ -64,16 +64,13 @@ loop-preserved-in-On g c =
 pub shape_of-buf-in-Over : goal.shape_of-buf-in-Over
 shape_of-buf-in-Over g c = c.loop.invariant.buf_long
 
-pub read_on-unread-requires : goal.read_on-unread-requires
-read_on-unread-requires g c =
+pub read_on-requires : goal.read_on-requires
+read_on-requires g c =
     let v = c.loop.invariant in
     let r = c.answer_come-done.ensures.reached in
     let come = come_length c.loop.buf c.loop.unread v.unread_in in
     let behind = left_in c.loop.buf c.loop.unread c.answer_come-done.result.bytes v.unread_in r.bytes_in in
     (record { in_order = behind; inside = v.unread_in.inside }, omega (arith, r.short c.in-More.is, come, v.buf_long, c.requires), omega (arith, c.requires))
-
-pub shape_of-buf-in-Some : goal.shape_of-buf-in-Some
-shape_of-buf-in-Some g c = c.read_on-unread.auto.buf ∙ c.loop.invariant.buf_long
 
 pub loop-preserved : goal.loop-preserved
 loop-preserved g c =
@@ -81,11 +78,11 @@ loop-preserved g c =
     let r = c.answer_come-done.ensures.reached in
     let come = come_length c.loop.buf c.loop.unread v.unread_in in
     record {
-      buf_long = c.read_on-unread.auto.buf ∙ v.buf_long;
+      buf_long = c.read_on.auto.buf ∙ v.buf_long;
       sound = r.sound;
       offset_in = omega (arith, r.offset_in, r.bytes_in, come, v.unread_in, v.buf_long, v.offset_in, c.requires);
       count_in = omega (arith, r.count_in, v.count_in);
-      unread_in = c.read_on-unread.ensures.within;
+      unread_in = c.in-Ok.ensures.read.within;
     }
 
 pub shape_of-buf : goal.shape_of-buf

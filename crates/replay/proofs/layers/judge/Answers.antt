@@ -1,4 +1,4 @@
--- `judge` is safe: each memory has as many places as the payload says, which was tested, and the parts of the payload lie within it. Assumes nothing.
+-- `layers::judge` is safe: each memory has as many places as the payload says, which was tested, and the parts of the payload lie within it. Assumes nothing.
 use Rattle.std.proofs.Common.{arith, length-take}
 use Rattle.replay.proofs.layers.judge.Goals as goal
 

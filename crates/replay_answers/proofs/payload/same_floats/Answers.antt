@@ -9,29 +9,22 @@ use Rattle.replay_answers.specs.Same.{same_bits, same_floats}
 use Rattle.replay_answers.proofs.payload.same_floats.Goals as goal
 
 pub loop-i-init : goal.loop-i-init
-loop-i-init c = (omega arith, every_none _)
+loop-i-init c = every_none _
 
 pub returns-then-not-same_bits : goal.returns-then-not-same_bits
 unfolding same_floats float_at
 returns-then-not-same_bits c =
-    let t = c in
-    let f = t.args.floats.now in
     let v = c.of_bits.ensures ∙ ap (of_bits binary32) c.u32_at.ensures in
-    let r = c.same_bits in
-    sym (every_not _ _ t.loop-i.i (omega arith) (sym (r.ensures ∙ ap (same_bits (get_or f t.loop-i.i nan)) v) ∙ c.if-not-same_bits.true))
+    sym (every_not _ _ c.loop-i.i (omega arith) (sym (c.same_bits.ensures ∙ ap (same_bits (get_or c.args.floats.now c.loop-i.i nan)) v) ∙ c.if-not-same_bits.true))
 
 pub loop-i-preserved : goal.loop-i-preserved
 unfolding float_at
 loop-i-preserved c =
-    let t = c in
-    let f = t.args.floats.now in
     let v = c.of_bits.ensures ∙ ap (of_bits binary32) c.u32_at.ensures in
-    let r = c.same_bits in
-    (omega arith, every_more _ _ t.loop-i.invariant.1 (sym (r.ensures ∙ ap (same_bits (get_or f t.loop-i.i nan)) v) ∙ c.if-not-same_bits.false))
+    every_more _ _ c.loop-i.invariant (sym (c.same_bits.ensures ∙ ap (same_bits (get_or c.args.floats.now c.loop-i.i nan)) v) ∙ c.if-not-same_bits.false)
 
 pub returns : goal.returns
 unfolding same_floats
 returns c =
-    let t = c in
-    let e : t.loop-i.i ≡ length t.args.floats.now = omega arith in
-    sym (rw e at t.loop-i.invariant.1)
+    let e : c.loop-i.i ≡ length c.args.floats.now = omega arith in
+    sym (rw e at c.loop-i.invariant)

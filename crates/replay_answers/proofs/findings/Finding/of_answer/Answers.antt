@@ -1,7 +1,0 @@
--- `findings::Finding::of_answer` meets its contract. Assumes nothing.
-use mathlib.Core.Path.{◌∙◌, ap}
-use Rattle.replay_answers.specs.Same.{finding_of}
-use Rattle.replay_answers.proofs.findings.Finding.of_answer.Goals as goal
-
-pub returns : goal.returns
-returns c = c.of_same.ensures ∙ ap finding_of c.same_answer.ensures

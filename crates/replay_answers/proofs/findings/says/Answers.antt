@@ -1,8 +1,0 @@
--- `findings::says` meets its contract, case by case. Assumes nothing.
-use Rattle.replay_answers.proofs.findings.says.Goals as goal
-
-pub returns-in-Done : goal.returns-in-Done
-returns-in-Done c = rw c.in-Done.is
-
-pub returns-in-Refused : goal.returns-in-Refused
-returns-in-Refused c = rw c.in-Refused.is
