@@ -17,17 +17,14 @@ pub fn number_of<T: Drop>(answer: Result<T, Refusal>) -> u32
 }
 
 // The number of a call that gives something, which is stored where it does not refuse.
-#[tactic(auto, unfolding(crate::specs::Answers::laid_out))]
-pub fn lay_out<T: Drop>(answer: Result<T, Refusal>, given: &mut T) -> u32
+#[tactic(auto, unfolding(crate::specs::Answers::number_of, crate::specs::Answers::laid_out))]
+pub fn lay_out<T: Copy>(answer: Result<T, Refusal>, given: &mut T) -> u32
     ensures { (result, given.new) ≡ laid_out answer given.old }
 {
-    match answer {
-        Ok(value) => {
-            *given = value;
-            0
-        }
-        Err(refusal) => refusal.number(),
+    if let Ok(value) = &answer {
+        *given = *value;
     }
+    number_of(answer)
 }
 
 // The number of a refusal, whose two block counts are stored where weights are short.
@@ -56,8 +53,8 @@ pub fn number_and_blocks<T: Drop>(answer: Result<T, Refusal>, blocks: &mut [usiz
 
 // The number of a call that gives something, which is stored where it does not refuse, and counts the blocks of its
 // weights.
-#[tactic(auto, unfolding(crate::specs::Answers::laid_out, crate::specs::Answers::blocks_after, crate::specs::Answers::laid_out_blocks))]
-pub fn lay_out_and_blocks<T: Drop>(
+#[tactic(auto, unfolding(crate::specs::Answers::number_of, crate::specs::Answers::laid_out, crate::specs::Answers::blocks_after, crate::specs::Answers::laid_out_blocks))]
+pub fn lay_out_and_blocks<T: Copy>(
     answer: Result<T, Refusal>,
     given: &mut T,
     blocks: &mut [usize; 2],
@@ -65,11 +62,8 @@ pub fn lay_out_and_blocks<T: Drop>(
     ensures { (result, (given.new, blocks.new))
         ≡ laid_out_blocks answer given.old blocks.old }
 {
-    match answer {
-        Ok(value) => {
-            *given = value;
-            0
-        }
-        Err(refusal) => refused_by(refusal, blocks),
+    if let Ok(value) = &answer {
+        *given = *value;
     }
+    number_and_blocks(answer, blocks)
 }

@@ -22,11 +22,7 @@ pub extern "C" fn jambharrow_open(
         ≡ numbered (open_says (layer_of format in_feat out_feat)
         (memory slots.old marks.old)) }
 {
-    let layer = Layer {
-        format,
-        in_feat,
-        out_feat,
-    };
+    let layer = Layer::of(format, in_feat, out_feat);
     number_of(stepped::open(layer, slots, marks))
 }
 
@@ -48,11 +44,7 @@ pub extern "C" fn jambharrow_piece(
         ≡ numbered_blocks (piece_says (layer_of format in_feat out_feat) w.now x.now row chunk
         (memory slots.old marks.old)) blocks.old }
 {
-    let layer = Layer {
-        format,
-        in_feat,
-        out_feat,
-    };
+    let layer = Layer::of(format, in_feat, out_feat);
     number_and_blocks(
         stepped_pieces::piece(layer, w, x, row, chunk, slots, marks),
         blocks,
@@ -87,11 +79,7 @@ pub extern "C" fn jambharrow_run(
         (memory slots.old marks.old))
         (ran done.old left.old) blocks.old }
 {
-    let layer = Layer {
-        format,
-        in_feat,
-        out_feat,
-    };
+    let layer = Layer::of(format, in_feat, out_feat);
     lay_out_counts(
         stepped::run(layer, w, x, budget, slots, marks),
         done,
@@ -115,10 +103,6 @@ pub extern "C" fn jambharrow_close(
         ≡ numbered (close_says (layer_of format in_feat out_feat) row
         (memory slots.now marks.now) y.old) }
 {
-    let layer = Layer {
-        format,
-        in_feat,
-        out_feat,
-    };
+    let layer = Layer::of(format, in_feat, out_feat);
     number_of(stepped::close(layer, row, slots, marks, y))
 }

@@ -146,11 +146,7 @@ fn decide(st: State, record: &[u8], weights: &mut [u8], y: &mut [f32]) -> Decide
                 out_feat,
             },
         ) => {
-            let latest = Layer {
-                format,
-                in_feat,
-                out_feat,
-            };
+            let latest = Layer::of(format, in_feat, out_feat);
             take_layer(st, latest, size, frames::payload(record), weights)
         }
         Ok(Item::Window) => {

@@ -28,13 +28,8 @@ pub struct Reply {
 pub fn start() -> State
     ensures { result ≡ begun }
 {
-    let layer = Layer {
-        format: 4,
-        in_feat: 0,
-        out_feat: 0,
-    };
     State {
-        layer,
+        layer: Layer::of(4, 0, 0),
         weight_bytes: 0,
         offset: 0,
         answered: 0,

@@ -1,7 +1,7 @@
 // A layer's shape: its pieces, and where their slots and their marks lie.
 ghost use Rattle.std.specs.Prelude.{◌≡◌, ◌<◌};
 ghost use Rattle.refusals.specs.Said.{done};
-ghost use Rattle.stepped_shape.specs.Layer.{chunks, pieces, place};
+ghost use Rattle.stepped_shape.specs.Layer.{layer_of, chunks, pieces, place};
 ghost use Rattle.stepped_shape.specs.Refusals.{shape_refusal};
 ghost use Rattle.stepped_shape.specs.Inner.{InLayer};
 
@@ -11,6 +11,19 @@ pub struct Layer {
     pub format: u8,
     pub in_feat: usize,
     pub out_feat: usize,
+}
+
+impl Layer {
+    // The layer of a call's format byte and two sizes.
+    pub fn of(format: u8, in_feat: usize, out_feat: usize) -> Layer
+        ensures { result ≡ layer_of format in_feat out_feat }
+    {
+        Layer {
+            format,
+            in_feat,
+            out_feat,
+        }
+    }
 }
 
 // The chunks of a row.

@@ -98,8 +98,9 @@ returns-in-Ok-Layer c =
     let weights = c.args.weights.now in
     let line : Line = Layer c.in-Ok-Layer.format c.in-Ok-Layer.in_feat c.in-Ok-Layer.out_feat in
     let l = layer_of c.in-Ok-Layer.format c.in-Ok-Layer.in_feat c.in-Ok-Layer.out_feat in
+    let made = ap (λ m. saying (Layer m.format m.in_feat m.out_feat) 0 (with_layer m (length (weights_in c.payload.result.now)) (behind (length c.args.«record».now) st))) c.of-latest.ensures in
     let same = ap (λ (q : List ℕ). saying line 0 (with_layer l (length (weights_in q)) (behind (length c.args.«record».now) st))) p in
-    let both = concluded st c.args.«record».now weights (Ok (Layer c.in-Ok-Layer.format c.in-Ok-Layer.in_feat c.in-Ok-Layer.out_feat)) _ _ _ (read_as c.read.ensures c.in-Ok-Layer.is c.in-Ok-Layer.field-0-is) (silent _ _ _ (e.value ∙ same) refl) (e.weights_after ∙ ap (λ (q : List ℕ). laid weights 0 (weights_in q)) p) in
+    let both = concluded st c.args.«record».now weights (Ok (Layer c.in-Ok-Layer.format c.in-Ok-Layer.in_feat c.in-Ok-Layer.out_feat)) _ _ _ (read_as c.read.ensures c.in-Ok-Layer.is c.in-Ok-Layer.field-0-is) (silent _ _ _ (e.value ∙ made ∙ same) refl) (e.weights_after ∙ ap (λ (q : List ℕ). laid weights 0 (weights_in q)) p) in
     record { decides = both.0; weights_after = both.1 }
 
 pub returns-in-Ok-Window : goal.returns-in-Ok-Window
