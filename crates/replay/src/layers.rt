@@ -35,11 +35,11 @@ fn judge_memory<F: Fn(&[f32], &[u8], &mut [f32], &mut [f32], Shape) -> Result<()
 }
 
 fn shape_of(payload: &[u8]) -> Shape {
-    Shape {
-        batch: u32_at(payload, 0) as usize,
-        in_feat: u32_at(payload, 4) as usize,
-        out_feat: u32_at(payload, 8) as usize,
-    }
+    Shape::of(
+        u32_at(payload, 0) as usize,
+        u32_at(payload, 4) as usize,
+        u32_at(payload, 8) as usize,
+    )
 }
 
 fn judge<F: Fn(&[f32], &[u8], &mut [f32], &mut [f32], Shape) -> Result<(), Refusal>>(
@@ -52,13 +52,7 @@ fn judge<F: Fn(&[f32], &[u8], &mut [f32], &mut [f32], Shape) -> Result<(), Refus
     let w_len = u32_at(payload, 16) as usize;
     let y_len = u32_at(payload, 20) as usize;
     let scratch_len = u32_at(payload, 24) as usize;
-    if x_len > MOST {
-        return Finding::Malformed;
-    }
-    if y_len > MOST {
-        return Finding::Malformed;
-    }
-    if scratch_len > MOST {
+    if x_len > MOST || y_len > MOST || scratch_len > MOST {
         return Finding::Malformed;
     }
     let w_at = 28 + 4 * x_len;
@@ -85,93 +79,97 @@ fn judge<F: Fn(&[f32], &[u8], &mut [f32], &mut [f32], Shape) -> Result<(), Refus
     )
 }
 
+// A layer that takes no scratch: the batch, in_feat and out_feat stand behind its memory.
+fn judge_plain<F: Fn(&[f32], &[u8], &mut [f32], usize, usize, usize) -> Result<(), Refusal>>(
+    payload: &[u8],
+    layer: F,
+) -> Finding
+    requires { F.IsAlwaysCallable layer }
+{
+    judge(
+        |x, w, y, _, s| layer(x, w, y, s.batch, s.in_feat, s.out_feat),
+        payload,
+    )
+}
+
+// A layer that takes scratch.
+fn judge_scratched<
+    F: Fn(&[f32], &[u8], &mut [f32], &mut [f32], usize, usize, usize) -> Result<(), Refusal>,
+>(payload: &[u8], layer: F) -> Finding
+    requires { F.IsAlwaysCallable layer }
+{
+    judge(
+        |x, w, y, scratch, s| layer(x, w, y, scratch, s.batch, s.in_feat, s.out_feat),
+        payload,
+    )
+}
+
+// A stored answer of the cpu layer that has this tag.
+fn judge_cpu_layer(tag: u8, payload: &[u8]) -> Finding {
+    match tag {
+        25 => judge_scratched(
+            payload,
+            |x, w, y, t, b, i, o| layers_cpu::linear_q4_k_cpu(x, w, y, t, b, i, o),
+        ),
+        26 => judge_scratched(
+            payload,
+            |x, w, y, t, b, i, o| layers_cpu::linear_q6_k_cpu(x, w, y, t, b, i, o),
+        ),
+        27 => judge_scratched(
+            payload,
+            |x, w, y, t, b, i, o| layers_cpu::linear_q4_0_cpu(x, w, y, t, b, i, o),
+        ),
+        38 => judge_scratched(
+            payload,
+            |x, w, y, t, b, i, o| layers_cpu::linear_q4_0_ggml_cpu(x, w, y, t, b, i, o),
+        ),
+        43 => judge_scratched(
+            payload,
+            |x, w, y, t, b, i, o| layers_cpu::linear_iq4_nl_cpu(x, w, y, t, b, i, o),
+        ),
+        _ => Finding::Unknown,
+    }
+}
+
 // A stored answer of the layer that has this tag.
 pub fn judge_layer(tag: u8, payload: &[u8]) -> Finding {
     match tag {
-        19 => judge(
-            |x, w, y, _, s| layers_fused::linear_q4_k_fused(
-                x, w, y, s.batch, s.in_feat, s.out_feat,
-            ),
+        19 => judge_plain(
             payload,
+            |x, w, y, b, i, o| layers_fused::linear_q4_k_fused(x, w, y, b, i, o),
         ),
-        20 => judge(
-            |x, w, y, _, s| layers_fused::linear_q6_k_fused(
-                x, w, y, s.batch, s.in_feat, s.out_feat,
-            ),
+        20 => judge_plain(
             payload,
+            |x, w, y, b, i, o| layers_fused::linear_q6_k_fused(x, w, y, b, i, o),
         ),
-        21 => judge(
-            |x, w, y, _, s| layers_integer::linear_q4_k_integer(
-                x, w, y, s.batch, s.in_feat, s.out_feat,
-            ),
+        21 => judge_plain(
             payload,
+            |x, w, y, b, i, o| layers_integer::linear_q4_k_integer(x, w, y, b, i, o),
         ),
-        22 => judge(
-            |x, w, y, _, s| layers_integer::linear_q6_k_integer(
-                x, w, y, s.batch, s.in_feat, s.out_feat,
-            ),
+        22 => judge_plain(
             payload,
+            |x, w, y, b, i, o| layers_integer::linear_q6_k_integer(x, w, y, b, i, o),
         ),
-        23 => judge(
-            |x, w, y, _, s| layers_integer::linear_q4_k_integer_rs(
-                x, w, y, s.batch, s.in_feat, s.out_feat,
-            ),
+        23 => judge_plain(
             payload,
+            |x, w, y, b, i, o| layers_integer::linear_q4_k_integer_rs(x, w, y, b, i, o),
         ),
-        24 => judge(
-            |x, w, y, _, s| layers_integer::linear_q6_k_integer_rs(
-                x, w, y, s.batch, s.in_feat, s.out_feat,
-            ),
+        24 => judge_plain(
             payload,
+            |x, w, y, b, i, o| layers_integer::linear_q6_k_integer_rs(x, w, y, b, i, o),
         ),
-        25 => judge(
-            |x, w, y, scratch, s| layers_cpu::linear_q4_k_cpu(
-                x, w, y, scratch, s.batch, s.in_feat, s.out_feat,
-            ),
+        33 => judge_plain(
             payload,
+            |x, w, y, b, i, o| layers_fused::linear_q5_k_fused(x, w, y, b, i, o),
         ),
-        26 => judge(
-            |x, w, y, scratch, s| layers_cpu::linear_q6_k_cpu(
-                x, w, y, scratch, s.batch, s.in_feat, s.out_feat,
-            ),
+        34 => judge_plain(
             payload,
+            |x, w, y, b, i, o| layers_integer::linear_q5_k_integer(x, w, y, b, i, o),
         ),
-        27 => judge(
-            |x, w, y, scratch, s| layers_cpu::linear_q4_0_cpu(
-                x, w, y, scratch, s.batch, s.in_feat, s.out_feat,
-            ),
+        35 => judge_plain(
             payload,
+            |x, w, y, b, i, o| layers_integer::linear_q5_k_integer_rs(x, w, y, b, i, o),
         ),
-        33 => judge(
-            |x, w, y, _, s| layers_fused::linear_q5_k_fused(
-                x, w, y, s.batch, s.in_feat, s.out_feat,
-            ),
-            payload,
-        ),
-        34 => judge(
-            |x, w, y, _, s| layers_integer::linear_q5_k_integer(
-                x, w, y, s.batch, s.in_feat, s.out_feat,
-            ),
-            payload,
-        ),
-        35 => judge(
-            |x, w, y, _, s| layers_integer::linear_q5_k_integer_rs(
-                x, w, y, s.batch, s.in_feat, s.out_feat,
-            ),
-            payload,
-        ),
-        38 => judge(
-            |x, w, y, scratch, s| layers_cpu::linear_q4_0_ggml_cpu(
-                x, w, y, scratch, s.batch, s.in_feat, s.out_feat,
-            ),
-            payload,
-        ),
-        43 => judge(
-            |x, w, y, scratch, s| layers_cpu::linear_iq4_nl_cpu(
-                x, w, y, scratch, s.batch, s.in_feat, s.out_feat,
-            ),
-            payload,
-        ),
-        _ => Finding::Unknown,
+        _ => judge_cpu_layer(tag, payload),
     }
 }
