@@ -1,25 +1,10 @@
 // The fixed-order sums.
+use crate::payloads::{floats_in, read_rows};
 use refusals::Refusal;
 use replay_answers::{Finding, read_floats, same_bits, same_floats, u32_at};
 
 // The places of a row at most: one more than a chunk has.
 const MOST: usize = 8_193;
-
-// Our answer on rows whose bits stand in these bytes, read into x and w.
-fn answer_on<F: Fn(&[f32], &[f32], usize) -> Result<f32, Refusal>>(
-    call: F,
-    n: usize,
-    x_bytes: &[u8],
-    w_bytes: &[u8],
-    x: &mut [f32],
-    w: &mut [f32],
-) -> Result<f32, Refusal>
-    requires { F.IsAlwaysCallable call }
-{
-    read_floats(x_bytes, x);
-    read_floats(w_bytes, w);
-    call(x, w, n)
-}
 
 // A payload is n, how many readings and weights there are, these, the number that says no, 0 where there is none, and
 // the value. A call that takes no n or no weights has 0 there.
@@ -29,33 +14,18 @@ fn judge_rows<F: Fn(&[f32], &[f32], usize) -> Result<f32, Refusal>>(
 ) -> Finding
     requires { F.IsAlwaysCallable call }
 {
-    let n = u32_at(payload, 0) as usize;
-    let x_len = u32_at(payload, 4) as usize;
-    let w_len = u32_at(payload, 8) as usize;
-    if x_len > MOST {
+    let Some(rows) = read_rows(payload, 4) else {
         return Finding::Malformed;
-    }
-    if w_len > MOST {
-        return Finding::Malformed;
-    }
-    let w_at = 12 + 4 * x_len;
-    let end = w_at + 4 * w_len;
-    if payload.len() != end + 8 {
-        return Finding::Malformed;
-    }
-    let number = u32_at(payload, end);
-    let value = halves::of_bits(u32_at(payload, end + 4));
+    };
     let mut x = [0.0f32; MOST];
+    let Some(x) = floats_in(rows.x, &mut x) else {
+        return Finding::Malformed;
+    };
     let mut w = [0.0f32; MOST];
-    let ours = answer_on(
-        call,
-        n,
-        &payload[12..w_at],
-        &payload[w_at..end],
-        &mut x[..x_len],
-        &mut w[..w_len],
-    );
-    Finding::of_answer(ours, number, value)
+    let Some(w) = floats_in(rows.w, &mut w) else {
+        return Finding::Malformed;
+    };
+    Finding::of_answer(call(x, w, rows.n), rows.number, rows.value)
 }
 
 // Our sum of the list whose bits stand in these bytes, read into `list`, beside theirs, and what then stands in it

@@ -9,6 +9,7 @@ mod block_quantizers;
 mod blocks;
 mod fixed_order_sums;
 mod given_scales;
+mod payloads;
 mod row_dots;
 
 pub use activation_blocks::judge_activation_block;

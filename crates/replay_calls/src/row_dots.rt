@@ -1,51 +1,24 @@
 // The dots of a row of readings and a row of packed blocks: in whole numbers, and fused.
+use crate::payloads::{floats_in, read_rows};
 use refusals::Refusal;
-use replay_answers::{Finding, read_floats, u32_at};
+use replay_answers::Finding;
 
 // The readings of a row at most: one more than a chunk has.
 const MOST: usize = 8_193;
-
-// Our answer on readings whose bits stand in these bytes, read into x.
-fn answer_on<F: Fn(&[f32], &[u8], usize) -> Result<f32, Refusal>>(
-    dot: F,
-    n: usize,
-    bytes: &[u8],
-    x: &mut [f32],
-    w: &[u8],
-) -> Result<f32, Refusal>
-    requires { F.IsAlwaysCallable dot }
-{
-    read_floats(bytes, x);
-    dot(x, w, n)
-}
 
 // A payload is n, how many readings and packed bytes there are, these, the number that says no, 0 where there is none,
 // and the value.
 fn judge_row<F: Fn(&[f32], &[u8], usize) -> Result<f32, Refusal>>(dot: F, payload: &[u8]) -> Finding
     requires { F.IsAlwaysCallable dot }
 {
-    let n = u32_at(payload, 0) as usize;
-    let x_len = u32_at(payload, 4) as usize;
-    let w_len = u32_at(payload, 8) as usize;
-    if x_len > MOST {
+    let Some(rows) = read_rows(payload, 1) else {
         return Finding::Malformed;
-    }
-    let w_at = 12 + 4 * x_len;
-    let end = w_at + w_len;
-    if payload.len() != end + 8 {
-        return Finding::Malformed;
-    }
-    let number = u32_at(payload, end);
-    let value = halves::of_bits(u32_at(payload, end + 4));
+    };
     let mut x = [0.0f32; MOST];
-    let ours = answer_on(
-        dot,
-        n,
-        &payload[12..w_at],
-        &mut x[..x_len],
-        &payload[w_at..end],
-    );
-    Finding::of_answer(ours, number, value)
+    let Some(x) = floats_in(rows.x, &mut x) else {
+        return Finding::Malformed;
+    };
+    Finding::of_answer(dot(x, rows.w, rows.n), rows.number, rows.value)
 }
 
 // A stored answer of the call that has this tag.
