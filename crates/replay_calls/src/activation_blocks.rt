@@ -1,8 +1,9 @@
 // Activation blocks, and the dots of a packed block and an activation block.
 use crate::blocks::{BLOCK, read_block, same_blocks};
+use crate::payloads::floats_in;
 use dots_activation::Q8Block;
 use refusals::Refusal;
-use replay_answers::{Finding, read_floats, u32_at};
+use replay_answers::{Finding, u32_at};
 
 // The readings at most: one more than a block has.
 const READINGS: usize = 257;
@@ -15,31 +16,24 @@ const NO_BLOCK: Q8Block = Q8Block {
     count: 0,
 };
 
-// Our block of readings whose bits stand in these bytes, read into x, beside theirs.
-fn judge_block(bytes: &[u8], x: &mut [f32], number: u32, theirs: Q8Block) -> Finding {
-    read_floats(bytes, x);
-    Finding::of_same(match dots_activation::quantize_block_q8(x) {
-        Ok(ours) => number == 0 && same_blocks(ours, theirs),
-        Err(refusal) => refusal.number() == number && same_blocks(NO_BLOCK, theirs),
-    })
-}
-
 // A payload is how many readings there are, the readings, the number that says no, 0 where there is none, and the
 // block, which is of zeros where there is none.
 fn judge_quantize_block_q8(payload: &[u8]) -> Finding {
-    let count = u32_at(payload, 0) as usize;
-    if count > READINGS {
-        return Finding::Malformed;
-    }
-    let end = 4 + 4 * count;
+    let end = 4 + 4 * u32_at(payload, 0) as usize;
     let block = end + 4;
     if payload.len() != block + BLOCK {
         return Finding::Malformed;
     }
+    let mut x = [0.0f32; READINGS];
+    let Some(x) = floats_in(&payload[4..end], &mut x) else {
+        return Finding::Malformed;
+    };
     let number = u32_at(payload, end);
     let theirs = read_block(&payload[block..]);
-    let mut x = [0.0f32; READINGS];
-    judge_block(&payload[4..end], &mut x[..count], number, theirs)
+    Finding::of_same(match dots_activation::quantize_block_q8(x) {
+        Ok(ours) => number == 0 && same_blocks(ours, theirs),
+        Err(refusal) => refusal.number() == number && same_blocks(NO_BLOCK, theirs),
+    })
 }
 
 // A payload is n, how many packed bytes there are, these, the activation block, the number that says no, 0 where there

@@ -1,17 +1,20 @@
 // The block quantizers. A payload is how many places the output has and how many readings there are, the readings, the
 // number that says no, 0 where there is none, how many blocks' scales were flushed and how many were sent to infinity, 0
 // where there is a number, and what then stands in the output.
+ghost use Rattle.std.specs.Prelude.{◌≤◌};
+
 use crate::given_scales::judge_given;
+use crate::payloads::floats_in;
 use quantizers::Lost;
 use refusals::Refusal;
-use replay_answers::{Finding, read_floats, same_bytes, u32_at};
+use replay_answers::{Finding, same_bytes, u32_at};
 
 // The places of an output at most: two blocks of Q8_0, and one place more.
-pub(crate) const ROOM: usize = 69;
+const ROOM: usize = 69;
 // What stands in each of them before the call.
 pub(crate) const STOOD: u8 = 0xEE;
 // The readings at most: two blocks, and one reading more.
-pub(crate) const READINGS: usize = 65;
+const READINGS: usize = 65;
 
 // Whether a quantizer says this number or, where the number is 0, that so many scales were lost.
 fn says_lost(ours: Result<Lost, Refusal>, number: u32, lost: Lost) -> bool {
@@ -23,29 +26,39 @@ fn says_lost(ours: Result<Lost, Refusal>, number: u32, lost: Lost) -> bool {
     }
 }
 
-// What a quantizer says and leaves in its output on readings whose bits stand in these bytes, read into `data`, beside
-// what is stored: `agrees` calls it, and says whether it says what is stored.
-pub(crate) fn judge_output<F: Fn(&[f32], &mut [u8]) -> bool>(
+// What a quantizer says and leaves in its output, beside what is stored: `agrees` calls it, and says whether it says
+// what is stored in `told` bytes behind the readings.
+pub(crate) fn judge_quantized<F: Fn(&[f32], &mut [u8], &[u8]) -> bool>(
     agrees: F,
-    bytes: &[u8],
-    data: &mut [f32],
-    out: &mut [u8],
-    left: &[u8],
+    told: usize,
+    payload: &[u8],
 ) -> Finding
-    requires { F.IsAlwaysCallable agrees }
+    requires first { F.IsAlwaysCallable agrees }
+    requires second { told ≤ 12 }
 {
-    read_floats(bytes, data);
-    if !agrees(data, out) {
+    let room = u32_at(payload, 0) as usize;
+    let end = 8 + 4 * u32_at(payload, 4) as usize;
+    let left = end + told;
+    if room > ROOM || payload.len() != left + room {
+        return Finding::Malformed;
+    }
+    let mut data = [0.0f32; READINGS];
+    let Some(data) = floats_in(&payload[8..end], &mut data) else {
+        return Finding::Malformed;
+    };
+    let mut out = [STOOD; ROOM];
+    let out = &mut out[..room];
+    if !agrees(data, out, &payload[end..left]) {
         return Finding::Differs;
     }
-    Finding::of_same(same_bytes(left, out))
+    Finding::of_same(same_bytes(&payload[left..], out))
 }
 
-// Two counts.
-fn read_lost(counts: &[u8]) -> Lost {
+// The two counts behind a number.
+fn read_lost(told: &[u8]) -> Lost {
     Lost {
-        flushed: u32_at(counts, 0) as usize,
-        infinite: u32_at(counts, 4) as usize,
+        flushed: u32_at(told, 4) as usize,
+        infinite: u32_at(told, 8) as usize,
     }
 }
 
@@ -55,29 +68,10 @@ fn judge_quantize<F: Fn(&[f32], &mut [u8]) -> Result<Lost, Refusal>>(
 ) -> Finding
     requires { F.IsAlwaysCallable quantize }
 {
-    let room = u32_at(payload, 0) as usize;
-    let count = u32_at(payload, 4) as usize;
-    if room > ROOM {
-        return Finding::Malformed;
-    }
-    if count > READINGS {
-        return Finding::Malformed;
-    }
-    let end = 8 + 4 * count;
-    let left = end + 12;
-    if payload.len() != left + room {
-        return Finding::Malformed;
-    }
-    let number = u32_at(payload, end);
-    let lost = read_lost(&payload[end + 4..left]);
-    let mut data = [0.0f32; READINGS];
-    let mut out = [STOOD; ROOM];
-    judge_output(
-        |data, out| says_lost(quantize(data, out), number, lost),
-        &payload[8..end],
-        &mut data[..count],
-        &mut out[..room],
-        &payload[left..],
+    judge_quantized(
+        |data, out, told| says_lost(quantize(data, out), u32_at(told, 0), read_lost(told)),
+        12,
+        payload,
     )
 }
 

@@ -1,7 +1,7 @@
 // The fixed-order sums.
 use crate::payloads::{floats_in, read_rows};
 use refusals::Refusal;
-use replay_answers::{Finding, read_floats, same_bits, same_floats, u32_at};
+use replay_answers::{Finding, same_bits, same_floats, u32_at};
 
 // The places of a row at most: one more than a chunk has.
 const MOST: usize = 8_193;
@@ -28,30 +28,23 @@ fn judge_rows<F: Fn(&[f32], &[f32], usize) -> Result<f32, Refusal>>(
     Finding::of_answer(call(x, w, rows.n), rows.number, rows.value)
 }
 
-// Our sum of the list whose bits stand in these bytes, read into `list`, beside theirs, and what then stands in it
-// beside what they left.
-fn judge_list(bytes: &[u8], list: &mut [f32], sum: f32, left: &[u8]) -> Finding {
-    read_floats(bytes, list);
-    if !same_bits(sums_tree::canonical_combine(list), sum) {
-        return Finding::Differs;
-    }
-    Finding::of_same(same_floats(left, list))
-}
-
 // A payload is how long the list is, the list, its sum, and the list that is left.
 fn judge_canonical_combine(payload: &[u8]) -> Finding {
     let len = u32_at(payload, 0) as usize;
-    if len > MOST {
-        return Finding::Malformed;
-    }
     let end = 4 + 4 * len;
     let left = end + 4;
     if payload.len() != left + 4 * len {
         return Finding::Malformed;
     }
-    let sum = halves::of_bits(u32_at(payload, end));
     let mut list = [0.0f32; MOST];
-    judge_list(&payload[4..end], &mut list[..len], sum, &payload[left..])
+    let Some(list) = floats_in(&payload[4..end], &mut list) else {
+        return Finding::Malformed;
+    };
+    let sum = halves::of_bits(u32_at(payload, end));
+    if !same_bits(sums_tree::canonical_combine(list), sum) {
+        return Finding::Differs;
+    }
+    Finding::of_same(same_floats(&payload[left..], list))
 }
 
 // A stored answer of the call that has this tag.
