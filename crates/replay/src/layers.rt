@@ -1,6 +1,14 @@
 // The stored answers of the layers, judged. A payload is batch, in_feat and out_feat, how many readings, packed bytes,
 // places of output and of scratch there are, the readings, the bytes, the number that says no, 0 where there is none,
 // and what then stands in the output and in scratch.
+use layers_cpu::{
+    linear_iq4_nl_cpu, linear_q4_0_cpu, linear_q4_0_ggml_cpu, linear_q4_k_cpu, linear_q6_k_cpu,
+};
+use layers_fused::{linear_q4_k_fused, linear_q5_k_fused, linear_q6_k_fused};
+use layers_integer::{
+    linear_q4_k_integer, linear_q4_k_integer_rs, linear_q5_k_integer, linear_q5_k_integer_rs,
+    linear_q6_k_integer, linear_q6_k_integer_rs,
+};
 use layers_shape::Shape;
 use refusals::Refusal;
 use replay_answers::{Finding, STOOD, read_floats, same_floats, says, u32_at};
@@ -79,97 +87,56 @@ fn judge<F: Fn(&[f32], &[u8], &mut [f32], &mut [f32], Shape) -> Result<(), Refus
     )
 }
 
-// A layer that takes no scratch: the batch, in_feat and out_feat stand behind its memory.
-fn judge_plain<F: Fn(&[f32], &[u8], &mut [f32], usize, usize, usize) -> Result<(), Refusal>>(
-    payload: &[u8],
-    layer: F,
-) -> Finding
-    requires { F.IsAlwaysCallable layer }
-{
-    judge(
-        |x, w, y, _, s| layer(x, w, y, s.batch, s.in_feat, s.out_feat),
-        payload,
-    )
+// A stored answer of a layer.
+#[derive(Clone, Copy)]
+struct Stored<'a> {
+    payload: &'a [u8],
 }
 
-// A layer that takes scratch.
-fn judge_scratched<
-    F: Fn(&[f32], &[u8], &mut [f32], &mut [f32], usize, usize, usize) -> Result<(), Refusal>,
->(payload: &[u8], layer: F) -> Finding
-    requires { F.IsAlwaysCallable layer }
-{
-    judge(
-        |x, w, y, scratch, s| layer(x, w, y, scratch, s.batch, s.in_feat, s.out_feat),
-        payload,
-    )
-}
+impl<'a> Stored<'a> {
+    // Of a layer that takes no scratch.
+    fn without_scratch<
+        F: Fn(&[f32], &[u8], &mut [f32], usize, usize, usize) -> Result<(), Refusal>,
+    >(self, layer: F) -> Finding
+        requires { F.IsAlwaysCallable layer }
+    {
+        judge(
+            |x, w, y, _, s| layer(x, w, y, s.batch, s.in_feat, s.out_feat),
+            self.payload,
+        )
+    }
 
-// A stored answer of the cpu layer that has this tag.
-fn judge_cpu_layer(tag: u8, payload: &[u8]) -> Finding {
-    match tag {
-        25 => judge_scratched(
-            payload,
-            |x, w, y, t, b, i, o| layers_cpu::linear_q4_k_cpu(x, w, y, t, b, i, o),
-        ),
-        26 => judge_scratched(
-            payload,
-            |x, w, y, t, b, i, o| layers_cpu::linear_q6_k_cpu(x, w, y, t, b, i, o),
-        ),
-        27 => judge_scratched(
-            payload,
-            |x, w, y, t, b, i, o| layers_cpu::linear_q4_0_cpu(x, w, y, t, b, i, o),
-        ),
-        38 => judge_scratched(
-            payload,
-            |x, w, y, t, b, i, o| layers_cpu::linear_q4_0_ggml_cpu(x, w, y, t, b, i, o),
-        ),
-        43 => judge_scratched(
-            payload,
-            |x, w, y, t, b, i, o| layers_cpu::linear_iq4_nl_cpu(x, w, y, t, b, i, o),
-        ),
-        _ => Finding::Unknown,
+    // Of a layer that takes scratch, behind its output.
+    fn with_scratch<
+        F: Fn(&[f32], &[u8], &mut [f32], &mut [f32], usize, usize, usize) -> Result<(), Refusal>,
+    >(self, layer: F) -> Finding
+        requires { F.IsAlwaysCallable layer }
+    {
+        judge(
+            |x, w, y, scratch, s| layer(x, w, y, scratch, s.batch, s.in_feat, s.out_feat),
+            self.payload,
+        )
     }
 }
 
 // A stored answer of the layer that has this tag.
 pub fn judge_layer(tag: u8, payload: &[u8]) -> Finding {
+    let stored = Stored { payload };
     match tag {
-        19 => judge_plain(
-            payload,
-            |x, w, y, b, i, o| layers_fused::linear_q4_k_fused(x, w, y, b, i, o),
-        ),
-        20 => judge_plain(
-            payload,
-            |x, w, y, b, i, o| layers_fused::linear_q6_k_fused(x, w, y, b, i, o),
-        ),
-        21 => judge_plain(
-            payload,
-            |x, w, y, b, i, o| layers_integer::linear_q4_k_integer(x, w, y, b, i, o),
-        ),
-        22 => judge_plain(
-            payload,
-            |x, w, y, b, i, o| layers_integer::linear_q6_k_integer(x, w, y, b, i, o),
-        ),
-        23 => judge_plain(
-            payload,
-            |x, w, y, b, i, o| layers_integer::linear_q4_k_integer_rs(x, w, y, b, i, o),
-        ),
-        24 => judge_plain(
-            payload,
-            |x, w, y, b, i, o| layers_integer::linear_q6_k_integer_rs(x, w, y, b, i, o),
-        ),
-        33 => judge_plain(
-            payload,
-            |x, w, y, b, i, o| layers_fused::linear_q5_k_fused(x, w, y, b, i, o),
-        ),
-        34 => judge_plain(
-            payload,
-            |x, w, y, b, i, o| layers_integer::linear_q5_k_integer(x, w, y, b, i, o),
-        ),
-        35 => judge_plain(
-            payload,
-            |x, w, y, b, i, o| layers_integer::linear_q5_k_integer_rs(x, w, y, b, i, o),
-        ),
-        _ => judge_cpu_layer(tag, payload),
+        19 => stored.without_scratch(|x, w, y, b, i, o| linear_q4_k_fused(x, w, y, b, i, o)),
+        20 => stored.without_scratch(|x, w, y, b, i, o| linear_q6_k_fused(x, w, y, b, i, o)),
+        21 => stored.without_scratch(|x, w, y, b, i, o| linear_q4_k_integer(x, w, y, b, i, o)),
+        22 => stored.without_scratch(|x, w, y, b, i, o| linear_q6_k_integer(x, w, y, b, i, o)),
+        23 => stored.without_scratch(|x, w, y, b, i, o| linear_q4_k_integer_rs(x, w, y, b, i, o)),
+        24 => stored.without_scratch(|x, w, y, b, i, o| linear_q6_k_integer_rs(x, w, y, b, i, o)),
+        25 => stored.with_scratch(|x, w, y, t, b, i, o| linear_q4_k_cpu(x, w, y, t, b, i, o)),
+        26 => stored.with_scratch(|x, w, y, t, b, i, o| linear_q6_k_cpu(x, w, y, t, b, i, o)),
+        27 => stored.with_scratch(|x, w, y, t, b, i, o| linear_q4_0_cpu(x, w, y, t, b, i, o)),
+        33 => stored.without_scratch(|x, w, y, b, i, o| linear_q5_k_fused(x, w, y, b, i, o)),
+        34 => stored.without_scratch(|x, w, y, b, i, o| linear_q5_k_integer(x, w, y, b, i, o)),
+        35 => stored.without_scratch(|x, w, y, b, i, o| linear_q5_k_integer_rs(x, w, y, b, i, o)),
+        38 => stored.with_scratch(|x, w, y, t, b, i, o| linear_q4_0_ggml_cpu(x, w, y, t, b, i, o)),
+        43 => stored.with_scratch(|x, w, y, t, b, i, o| linear_iq4_nl_cpu(x, w, y, t, b, i, o)),
+        _ => Finding::Unknown,
     }
 }
