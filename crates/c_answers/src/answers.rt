@@ -33,8 +33,7 @@ fn refused_by(refusal: Refusal, blocks: &mut [usize; 2]) -> u32
     ensures { (result ≡ number refusal) × (blocks.new ≡ blocks_by refusal blocks.old) }
 {
     match refusal {
-        Refusal::BlocksShort { found, needed } => *blocks = [found, needed],
-        Refusal::WeightsShort => *blocks = [0, 0],
+        Refusal::WeightsShort { found, needed } => *blocks = [found, needed],
         _ => {}
     }
     refusal.number()

@@ -122,7 +122,7 @@ fn quants_of(x: &[f32], inverse: f32) -> [i8; 256]
     qs
 }
 
-// The block of a scale, quants and a count: every block but that of a refusal is made here.
+// The block of a scale, quants and a count: every block is made here.
 fn block_with(d: f32, qs: [i8; 256], count: usize) -> Q8Block
     ensures { result ≡ block_with d qs count }
 {

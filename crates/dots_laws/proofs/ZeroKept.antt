@@ -6,9 +6,10 @@ use Prim.Native.Nat.{ℕ}
 use native.Mathlib.Omega.{arith}
 use lib.IntN.{pos}
 use lib.Ieee.{Float, fin, binary32, of_bits, neg, add, mul}
+use Rattle.refusals.specs.Said.{uncounted}
 use Rattle.refusals.specs.Refusals.{given}
 use Rattle.std.proofs.Common.{Ok, Err}
-use Rattle.refusals.specs.declared.refusal.Refusal.TheVariants.{WeightsShort, ReadingsShort}
+use Rattle.refusals.specs.declared.refusal.Refusal.TheVariants.{ReadingsShort}
 use Rattle.memory.specs.Lists.{table}
 use Rattle.sums_tree.specs.Tree.{tree, met, pair_up}
 use Rattle.sums_lanes.specs.Lanes.{add_to, lanes_from, lanes, chunk_sum}
@@ -50,6 +51,6 @@ pub short_of_readings : dot_says [] weights 2 ≡ Err ReadingsShort
 unfolding dot_says given
 short_of_readings = refl
 
-pub short_of_weights : dot_says weights [] 2 ≡ Err WeightsShort
+pub short_of_weights : dot_says weights [] 2 ≡ Err uncounted
 unfolding dot_says given
 short_of_weights = refl

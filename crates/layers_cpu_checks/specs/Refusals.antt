@@ -2,9 +2,9 @@
 use Prim.{Unit}
 use Rattle.std.specs.Prelude.{ℕ, ◌*◌, ◌/◌, ◌%◌, not, cond, ltb, eqb}
 use Rattle.refusals.specs.declared.refusal.Refusal.{Refusal}
-use Rattle.refusals.specs.Said.{Said, done}
+use Rattle.refusals.specs.Said.{Said, done, uncounted}
 use Rattle.refusals.specs.Refusals.{given}
-use Rattle.refusals.specs.declared.refusal.Refusal.TheVariants.{NotWholeBlocks, NotAMultiple, WeightsShort, ReadingsShort, RoomShort, TooLarge, WeightsLong}
+use Rattle.refusals.specs.declared.refusal.Refusal.TheVariants.{NotWholeBlocks, NotAMultiple, ReadingsShort, RoomShort, TooLarge, WeightsLong}
 use Rattle.layouts.specs.Formats.{bytes32, bytes_k}
 use Rattle.layouts.specs.Weights.{values_of}
 use Rattle.layouts.specs.declared.format.Format.{Format}
@@ -14,7 +14,7 @@ use Rattle.layers_shape.specs.Shapes.{oversize}
 
 -- any other weights than needed: 3 where there are fewer, and 14 where there are more
 abbrev pub other_weights : (found needed : ℕ) → Refusal
-other_weights found needed = cond (ltb found needed) WeightsShort WeightsLong
+other_weights found needed = cond (ltb found needed) uncounted WeightsLong
 
 -- Why a `_cpu` layer says no, given so many readings, weight bytes, output and scratch places. Any other length than
 -- what is needed is refused, but for scratch, which may be longer. The K formats look at the readings and the output

@@ -11,7 +11,7 @@ fn other_weights(found: usize, needed: usize) -> Refusal
     ensures { result ≡ other_weights found needed }
 {
     if found < needed {
-        return Refusal::WeightsShort;
+        return refusals::WEIGHTS_SHORT;
     }
     Refusal::WeightsLong
 }

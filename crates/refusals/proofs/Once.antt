@@ -8,7 +8,6 @@ use Rattle.refusals.specs.declared.refusal.Refusal.TheVariants.{
   NotWholeBlocks,
   NotAMultiple,
   WeightsShort,
-  BlocksShort,
   ReadingsShort,
   RoomShort,
   TooLarge,
@@ -22,7 +21,7 @@ use Rattle.refusals.specs.declared.refusal.Refusal.TheVariants.{
   WeightsLong,
   WrongCount,
 }
-use Rattle.refusals.specs.Said.{Said, number, found_by, needed_by, counts_blocks}
+use Rattle.refusals.specs.Said.{Said, number, found_by, needed_by}
 
 module _ {L : Type 0} {A R S : L → Type 0} where
   -- any two results that meet the contract P at the same arguments are the same
@@ -43,12 +42,12 @@ both {A = A} {B = B} h k = let e = same h k in (ap (λ (p : A × B). p.0) e, ap 
 
 -- ---- what tells refusals and answers apart
 
--- the refusal of a number that counts no blocks
-of_number : ℕ → Refusal
-of_number num =
+-- the refusal of a number and what it counts
+of_all : (num found needed : ℕ) → Refusal
+of_all num found needed =
     cond (eqb num 1) NotWholeBlocks
     (cond (eqb num 2) NotAMultiple
-    (cond (eqb num 3) WeightsShort
+    (cond (eqb num 3) (WeightsShort found needed)
     (cond (eqb num 4) ReadingsShort
     (cond (eqb num 5) RoomShort
     (cond (eqb num 6) TooLarge
@@ -61,17 +60,11 @@ of_number num =
     (cond (eqb num 13) WarmUp
     (cond (eqb num 14) WeightsLong WrongCount)))))))))))))
 
--- the refusal of what is said of it
-of_all : ℕ → Bool → ℕ → ℕ → Refusal
-of_all num true found needed = BlocksShort found needed
-of_all num false found needed = of_number num
-
-again : (why : Refusal) → of_all (number why) (counts_blocks why) (found_by why) (needed_by why) ≡ why
-unfolding of_all of_number
+again : (why : Refusal) → of_all (number why) (found_by why) (needed_by why) ≡ why
+unfolding of_all
 again NotWholeBlocks = refl
 again NotAMultiple = refl
-again WeightsShort = refl
-again (BlocksShort found needed) = refl
+again (WeightsShort found needed) = refl
 again ReadingsShort = refl
 again RoomShort = refl
 again TooLarge = refl
@@ -85,15 +78,14 @@ again WarmUp = refl
 again WeightsLong = refl
 again WrongCount = refl
 
--- two refusals of one number that count the same blocks, or none, are one
+-- two refusals of one number that count the same are one
 pub record SameRefusal (x y : Refusal) : Type 0 where
   pub same_number : number x ≡ number y
-  pub same_counting : counts_blocks x ≡ counts_blocks y
   pub same_found : found_by x ≡ found_by y
   pub same_needed : needed_by x ≡ needed_by y
 
 pub one_refusal : (x y : Refusal) → SameRefusal x y → x ≡ y
-one_refusal x y e = sym (again x) ∙ rw (e.same_number, e.same_counting, e.same_found, e.same_needed) (again y)
+one_refusal x y e = sym (again x) ∙ rw (e.same_number, e.same_found, e.same_needed) (again y)
 
 -- two answers say the same: they give the same, or refuse for the same reason
 pub data SaySame {A : Type 0} : Said A → Said A → Type 0 where

@@ -1,13 +1,12 @@
 -- What a call says, in document 01's terms: what it gives, or why it refuses, and the number of each refusal. Definitions
 -- only.
 use Prim.{Unit, tt}
-use Rattle.std.specs.Prelude.{ℕ, Bool, true, false, Result, Ok, Err}
+use Rattle.std.specs.Prelude.{ℕ, Result, Ok, Err}
 use Rattle.refusals.specs.declared.refusal.Refusal.{Refusal}
 use Rattle.refusals.specs.declared.refusal.Refusal.TheVariants.{
   NotWholeBlocks,
   NotAMultiple,
   WeightsShort,
-  BlocksShort,
   ReadingsShort,
   RoomShort,
   TooLarge,
@@ -37,14 +36,17 @@ passed_on (Err why) = Err why
 
 -- fewer packed weights than needed (3): so many whole blocks were found, and so many are needed
 abbrev pub blocks_short : (found needed : ℕ) → Refusal
-blocks_short found needed = BlocksShort found needed
+blocks_short found needed = WeightsShort found needed
+
+-- fewer weights than needed (3), which are not counted in blocks
+abbrev pub uncounted : Refusal
+uncounted = WeightsShort 0 0
 
 -- the number that document 01 gives a refusal, and document 02 the last two
 abbrev pub number : Refusal → ℕ
 number NotWholeBlocks = 1
 number NotAMultiple = 2
-number WeightsShort = 3
-number (BlocksShort found needed) = 3
+number (WeightsShort found needed) = 3
 number ReadingsShort = 4
 number RoomShort = 5
 number TooLarge = 6
@@ -60,15 +62,10 @@ number WrongCount = 15
 
 -- the whole blocks that were found, where a refusal counts them, and otherwise 0 ..
 abbrev pub found_by : Refusal → ℕ
-found_by (BlocksShort found needed) = found
+found_by (WeightsShort found needed) = found
 found_by why = 0
 
 -- .. and that are needed
 abbrev pub needed_by : Refusal → ℕ
-needed_by (BlocksShort found needed) = needed
+needed_by (WeightsShort found needed) = needed
 needed_by why = 0
-
--- whether a refusal counts blocks: of the two with the number 3 that of packed weights
-abbrev pub counts_blocks : Refusal → Bool
-counts_blocks (BlocksShort found needed) = true
-counts_blocks why = false

@@ -3,7 +3,7 @@
 
 mod refusal;
 
-pub use refusal::{Refusal, blocks_short, passed_on};
+pub use refusal::{Refusal, WEIGHTS_SHORT, blocks_short, passed_on};
 
 // n and in_feat at most.
 pub const MOST_IN: usize = 131_072;

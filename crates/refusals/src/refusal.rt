@@ -9,15 +9,14 @@ pub enum Refusal {
     NotWholeBlocks,
     // 2: a float count or in_feat is not a multiple of the block's values.
     NotAMultiple,
-    // 3, where weights are not counted in blocks: fewer of them than needed, as floats or in a `_cpu` layer.
-    WeightsShort,
-    // 3, where weights are packed: fewer of them than needed, by the whole blocks that were found and that are needed.
-    BlocksShort { found: usize, needed: usize },
+    // 3: fewer weights than needed. Packed weights are counted, by the whole blocks that were found and that are needed;
+    // of floats, and in a `_cpu` layer, both counts are 0.
+    WeightsShort { found: usize, needed: usize },
     // 4: fewer readings than needed; in the `_cpu` layers, any other length; too many for one activation block.
     ReadingsShort,
     // 5: output, scratch, slots or marks too short; in the `_cpu` layers, an output of any other length.
     RoomShort,
-    // 6: over a size below; a layer record's in_feat or out_feat out of range.
+    // 6: over a size that the call takes; a layer record's in_feat or out_feat out of range.
     TooLarge,
     // 7: an activation block whose sums are not the sums of its 32s.
     WrongSums,
@@ -47,8 +46,7 @@ impl Refusal {
         match self {
             Refusal::NotWholeBlocks => 1,
             Refusal::NotAMultiple => 2,
-            Refusal::WeightsShort => 3,
-            Refusal::BlocksShort { .. } => 3,
+            Refusal::WeightsShort { .. } => 3,
             Refusal::ReadingsShort => 4,
             Refusal::RoomShort => 5,
             Refusal::TooLarge => 6,
@@ -65,11 +63,17 @@ impl Refusal {
     }
 }
 
+// Fewer weights than needed, which are not counted in blocks.
+pub const WEIGHTS_SHORT: Refusal = Refusal::WeightsShort {
+    found: 0,
+    needed: 0,
+};
+
 // Fewer packed weights than needed, by whole blocks.
 pub fn blocks_short(found: usize, needed: usize) -> Refusal
     ensures { result ≡ blocks_short found needed }
 {
-    Refusal::BlocksShort { found, needed }
+    Refusal::WeightsShort { found, needed }
 }
 
 // What a call that gives nothing says of one that it rests on: its refusal is passed on.

@@ -1,9 +1,9 @@
 -- What the calls say, refusals and all, in document 01's order. Definitions only.
 use Rattle.std.specs.Prelude.{List, cond, ℕ, ltb, eqb, length, Float, Ok}
-use Rattle.refusals.specs.Said.{Said}
+use Rattle.refusals.specs.Said.{Said, uncounted}
 use Rattle.refusals.specs.Refusals.{given}
 use Rattle.refusals.specs.Sizes.{most_in}
-use Rattle.refusals.specs.declared.refusal.Refusal.TheVariants.{WeightsShort, ReadingsShort, TooLarge}
+use Rattle.refusals.specs.declared.refusal.Refusal.TheVariants.{ReadingsShort, TooLarge}
 use Rattle.numbers.specs.Steps.{nought}
 use Rattle.sums_lanes.specs.Lanes.{products, values}
 use Rattle.sums.specs.Rows.{row_sum}
@@ -14,7 +14,7 @@ unfoldable pub dot_says : List Float → List Float → ℕ → Said Float
 dot_says x w n =
     given TooLarge (ltb most_in n)
     (cond (eqb n 0) (Ok nought)
-    (given WeightsShort (ltb (length w) n)
+    (given uncounted (ltb (length w) n)
     (given ReadingsShort (ltb (length x) n)
     (Ok (row_sum (products x w) n)))))
 

@@ -41,7 +41,7 @@ pub fn canonical_dot_pub(x: &[f32], w: &[f32], n: usize) -> Result<f32, Refusal>
         return Ok(0.0);
     }
     if w.len() < n {
-        return Err(Refusal::WeightsShort);
+        return Err(refusals::WEIGHTS_SHORT);
     }
     if x.len() < n {
         return Err(Refusal::ReadingsShort);

@@ -68,7 +68,7 @@ pub fn canonical_chunk(x: &[f32], w: &[f32]) -> Result<f32, Refusal>
         return Err(Refusal::TooLarge);
     }
     if w.len() < n {
-        return Err(Refusal::WeightsShort);
+        return Err(refusals::WEIGHTS_SHORT);
     }
     Ok(chunk_dot(x, w))
 }
