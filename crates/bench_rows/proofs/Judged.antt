@@ -5,6 +5,7 @@ use mathlib.Core.List.{List, [], ◌∷◌}
 use Prim.Native.Nat.{ℕ, ◌-◌}
 use native.Mathlib.Omega.{arith}
 use lib.ListN.{length, get_or, replicate, get_or-map}
+use lib.IntN.{pos}
 use lib.Ieee.{Float}
 use borrow.Author.Tests.{eq-eqb, le-ltb}
 use Rattle.refusals.specs.Said.{Said}
@@ -19,11 +20,12 @@ use Rattle.quantizers.specs.Lost.{lost_by}
 use Rattle.quantizers.specs.declared.lost.Lost.{Lost}
 use Rattle.quantizers.specs.declared.target.Target.TheVariants.{Q40}
 use Rattle.sums.specs.Says.{sum_says}
-use Rattle.dots_activation.specs.Blocks.{block_says}
+use Rattle.numbers.specs.Steps.{nought}
+use Rattle.dots_activation.specs.Blocks.{block_in, block_of, block_says}
 use Rattle.dots_activation.specs.declared.block.Q8Block.{Q8Block}
 use Rattle.memory.proofs.Every.{every_all}
 use Rattle.replay_answers.specs.Same.{same_bytes}
-use Rattle.bench_rows.specs.Card.{Row, row, widen, floats, value_bits, written_by, quants_by, answer, card, row_at, same_numbers, answered}
+use Rattle.bench_rows.specs.Card.{Row, row, widen, floats, value_bits, written_by, first_quants, quants_by, answer, card, row_at, same_numbers, answered}
 use Rattle.bench_rows.specs.Rows.{meant, judged}
 use Rattle.bench_rows.specs.declared.table.Row.TheVariants.{Packs, Sums, Quantizes}
 use Rattle.bench_rows.proofs.Card.{card_holds}
@@ -69,6 +71,15 @@ summed first bits s e = ap (λ (t : Said Float). same_numbers (value_bits t) (bi
 pub quantised : (x y inv a b c : ℕ) (s : Said Q8Block) → s ≡ block_says (floats (x ∷ y ∷ 0 ∷ [])) → same_numbers (quants_by 3 s) (inv ∷ a ∷ b ∷ c ∷ []) ≡ judged (Quantizes x y inv a b c)
 unfolding judged meant answered answer
 quantised x y inv a b c s e = ap (λ (t : Said Q8Block). same_numbers (quants_by 3 t) (inv ∷ a ∷ b ∷ c ∷ [])) e
+
+-- three readings are never refused
+pub three_kept : (x y : ℕ) (s : Said Q8Block) (why : Refusal) → s ≡ block_says (floats (x ∷ y ∷ 0 ∷ [])) → s ≡ Err why → ⊥
+unfolding block_says given
+three_kept x y s why e r = apart why (block_of (floats (x ∷ y ∷ 0 ∷ []))) (sym r ∙ e)
+
+-- a refused block shows what one of zeros does
+pub refused_quants : (n : ℕ) (why : Refusal) → quants_by n (Err why) ≡ first_quants n (block_in nought (replicate 256 (pos 0)) (replicate 8 (pos 0)) 0)
+refused_quants n why = refl
 
 -- ---- the card
 

@@ -7,12 +7,13 @@ use Rattle.refusals.specs.Said.{Said}
 use Rattle.memory.specs.Lists.{table, every}
 use Rattle.halves.specs.Binary16.{widened, narrowed}
 use Rattle.numbers.specs.Fields.{byte_of}
+use Rattle.numbers.specs.Steps.{nought}
 use Rattle.readings.specs.Readings.{inverse, quant_q8}
 use Rattle.quantizers.specs.Says.{quantize_says}
 use Rattle.quantizers.specs.declared.target.Target.TheVariants.{Q40}
 use Rattle.sums.specs.Says.{sum_says}
 use Rattle.dots_activation.specs.Whole.{elem}
-use Rattle.dots_activation.specs.Blocks.{block_says}
+use Rattle.dots_activation.specs.Blocks.{block_in, block_says}
 use Rattle.dots_activation.specs.declared.block.Q8Block.{Q8Block}
 
 -- What a row asks. A float is given by its bits, as the card writes it.
@@ -55,10 +56,10 @@ written_by (Err why, out) = []
 abbrev pub first_quants : ℕ → Q8Block → List ℕ
 first_quants n block = to_bits binary32 (inverse block.d) ∷ table (λ i. byte_of (elem block.qs i)) n
 
--- of the block that is made of n readings: the same; a refusal makes none
+-- of the block that is made of n readings: the same; a refusal leaves one of zeros
 abbrev pub quants_by : ℕ → Said Q8Block → List ℕ
 quants_by n (Ok block) = first_quants n block
-quants_by n (Err why) = []
+quants_by n (Err why) = first_quants n (block_in nought (replicate 256 (pos 0)) (replicate 8 (pos 0)) 0)
 
 -- what the definitions answer
 unfoldable pub answer : Asked → List ℕ

@@ -1,14 +1,12 @@
--- `rows::quantizes` meets its contract: a refusal makes no block. Assumes nothing.
+-- `rows::quantizes` meets its contract: three readings are never refused. Assumes nothing.
 use mathlib.Core.Path.{◌∙◌}
-use Rattle.bench_rows.specs.Card.{same_numbers}
-use Rattle.bench_rows.proofs.Judged.{quantised}
+use Rattle.bench_rows.proofs.Judged.{quantised, three_kept}
 use Rattle.bench_rows.proofs.rows.quantizes.Goals as goal
 
 pub returns-in_default : goal.returns-in_default
-unfolding same_numbers
 returns-in_default c =
     let a = c.args in
-    rw c.in_default.is at (quantised a.x a.y a.inverse a.a a.b a.c _ (rw (c.of_bits.ensures, c.of_bits-2.ensures) at c.quantize_block_q8.ensures))
+    absurd (three_kept a.x a.y _ _ (rw (c.of_bits.ensures, c.of_bits-2.ensures) at c.quantize_block_q8.ensures) c.in_default.is)
 
 pub returns : goal.returns
 returns c =
